@@ -1,21 +1,17 @@
-// Works the bench figures out and prints each.
-use refusals::Refusal;
-use std::io;
+// Works the bench figures out and prints each thing it did.
+mod maps_report;
+mod orders_report;
+mod traces_report;
+mod turned_down;
 
-fn main(rt: LibcRuntime) -> io::Result<()> {
-    println!(
-        rt,
-        "size outside its limits: refused with {}",
-        Refusal::OutsideLimits.number()
-    )?;
-    println!(
-        rt,
-        "bad stride or card: refused with {}",
-        Refusal::BadOrder.number()
-    )?;
-    println!(
-        rt,
-        "situation outside its limits: refused with {}",
-        Refusal::BadSituation.number()
-    )
+use figures::figures::figures_that_hold;
+use std::error::AnyError;
+
+fn main(rt: LibcRuntime) -> Result<(), AnyError> {
+    orders_report::report(&rt)?;
+    maps_report::report(&rt)?;
+    traces_report::report(&rt)?;
+    let count = figures_that_hold();
+    println!(rt, "figures proved of the definitions: {count}")?;
+    Ok(())
 }
