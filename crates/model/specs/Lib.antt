@@ -1,0 +1,17 @@
+pub mod Types
+pub mod Fun
+pub mod State
+pub mod Steps
+pub mod Checks
+pub mod Begins
+pub mod Reach
+pub mod Inv
+pub mod Sound
+pub mod Walks
+pub mod Setting
+pub mod Plain
+pub mod Runs
+pub mod Opened
+pub mod Law
+pub mod Existing
+pub mod Shown

@@ -1,0 +1,11 @@
+// The model of the shared store: the types that the program and the law share.
+pub mod calls;
+pub mod existing;
+pub mod nodes;
+pub mod outcomes;
+pub mod place;
+pub mod running;
+pub mod shown;
+pub mod trail;
+pub mod tray;
+pub mod words;
