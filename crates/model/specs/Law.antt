@@ -3,7 +3,7 @@ use Prim.Native.Nat.{ℕ, _+_, _*_, _≤_, _<_}
 use mathlib.Core.Path.{_≡_}
 use mathlib.Core.Logic.{_≢_, _↔_}
 use mathlib.Core.Bool.{Bool, true, false}
-use Rattle.model.specs.Types.{Plan, Makes, Sweeps, Running, Idle, Reads, GoesDown, Keeps, Drops, Hands, Fetches, TakesOut, Works, WalkReads, WalkGoesDown, Walk, AsksWalk, Outcome, Begun, Place}
+use Rattle.model.specs.Types.{Makes, Sweeps, Running, Idle, Reads, GoesDown, Keeps, Drops, Hands, Fetches, TakesOut, Works, WalkReads, WalkGoesDown, Walk, AsksWalk, Outcome, Begun}
 use Rattle.model.specs.Checks.{Lengths}
 use Rattle.model.specs.Reach.{Lost, Free, AtRest}
 use Rattle.model.specs.Setting.{Setting}
@@ -14,6 +14,10 @@ use Rattle.model.specs.Opened.{Agrees, Opened, New}
 -- a call that is neither Make nor walk is under way
 abbrev pub isBrief : {D : Type 0} → Running D → Bool
 isBrief r = elim r [ Idle ↦ false | Reads g ↦ true | GoesDown k ↦ true | Keeps i ↦ true | Drops i ↦ true | Hands i q ↦ true | Fetches i ↦ true | TakesOut i v ↦ true | Works j c ↦ elim j [ Makes plan ↦ false | Sweeps ↦ true ] | WalkReads t g ↦ false | WalkGoesDown t k ↦ false ]
+
+-- a Make is under way
+abbrev pub isMaking : {D : Type 0} → Running D → Bool
+isMaking r = elim r [ Works j c ↦ elim j [ Makes plan ↦ true | Sweeps ↦ false ] | Idle ↦ false | Reads g ↦ false | GoesDown k ↦ false | Keeps i ↦ false | Drops i ↦ false | Hands i q ↦ false | Fetches i ↦ false | TakesOut i v ↦ false | WalkReads t g ↦ false | WalkGoesDown t k ↦ false ]
 
 module _ {D W A B : Type 0} (X : Setting D W A B) where
   abbrev pub SomeFree : System D W A B → Type 0
@@ -36,7 +40,7 @@ module _ {D W A B : Type 0} (X : Setting D W A B) where
   makeBound G = 18 * X .node-order .horizon (G .node-order) * (X .parties * X .party-order .horizon (G .party-order) + 1) + 28
 
   abbrev pub MakesEnd : System D W A B → Type 0
-  MakesEnd G = (p : ℕ) (plan : Plan D) (c : Place) → 1 ≤ p → p ≤ X .parties → G .store .run p ≡ Works (Makes plan) c
+  MakesEnd G = (p : ℕ) → 1 ≤ p → p ≤ X .parties → isMaking (G .store .run p) ≡ true
       → (later : Log X) (H : System D W A B) (r : Run X G later H) → AtEachMoment X SomeFree r → endsOf p later ≡ 0 → turnsOf p later < makeBound G
 
   -- every other call ends within 16 turns of its own
