@@ -41,3 +41,11 @@ walk-turn-passed N M p l r h =
     let v = passes short ShortList ((not (isWalking r), NothingToTurn) ∷ []) (u .1) in
     let i = is-between 1 N p (u .0) in
     (i .0, i .1, walking-runs r (passes (not (isWalking r)) NothingToTurn [] (v .1) .0))
+
+-- a walk's Turn that passes its checks is of a party that walks
+pub walk-turn-walks : {D : Type 0} (N M p : ℕ) (l : Lengths) (r : Running D) → walkTurnFault N M p l r ≡ None → isWalking r ≡ true
+walk-turn-walks N M p l r h =
+    let short = ltb (l .entries) M || (ltb (l .marks) M || ltb (l .worths) M) in
+    let u = passes (not (between 1 N p)) NoSuchParty ((short, ShortList) ∷ (not (isWalking r), NothingToTurn) ∷ []) h in
+    let v = passes short ShortList ((not (isWalking r), NothingToTurn) ∷ []) (u .1) in
+    not-false (isWalking r) (passes (not (isWalking r)) NothingToTurn [] (v .1) .0)

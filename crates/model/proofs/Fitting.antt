@@ -177,7 +177,7 @@ reach-more N f b kids p i v g {n} (by-kid m k r e z) =
     ]
 
 -- a new store reaches nothing
-new-reaches : (D : Type 0) (N : ℕ) {n : ℕ} → Reached {D = D} N newStore n → ⊥
+pub new-reaches : (D : Type 0) (N : ℕ) {n : ℕ} → Reached {D = D} N newStore n → ⊥
 new-reaches D N (by-slot q i a b c d e z) = z (sym e)
 new-reaches D N (by-box q a b e z) = z (sym e)
 new-reaches D N (by-kid m k r e z) = new-reaches D N r

@@ -105,7 +105,7 @@ module _ {D W A B : Type 0} (X : Setting D W A B) where
   moves-keep K (walk-turn-refused r h t g) = subst Kept (sym g) K
   moves-keep {F} K (walk-turn {p} {l} h m) = let u = walk-turn-passed (X .parties) (X .nodes) p l (F .store .run p) h in steps-keep K (u .0, u .1) (u .2) m
 
-  new-kept : (F : System D W A B) → New X F → Kept F
+  pub new-kept : (F : System D W A B) → New X F → Kept F
   new-kept F n = record { limits = n .limits; sound = subst (Sound (X .parties) (X .nodes)) (sym (n .store-is)) (new-sound D (X .parties) (X .nodes)); sized = n .sized }
 
   pub existing-kept : (F : System D W A B) → CanExist X F → Kept F

@@ -19,3 +19,8 @@ pub mod Tells
 pub mod Kept
 pub mod Fitting
 pub mod FitsAlways
+pub mod Resting
+pub mod Others
+pub mod BriefCalls
+pub mod OtherCallsEnd
+pub mod NewOpened

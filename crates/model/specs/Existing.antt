@@ -10,6 +10,7 @@ use Rattle.model.specs.Inv.{inSlots, inBoxes, inTrays, inKids, carried}
 use Rattle.model.specs.Setting.{Setting}
 use Rattle.model.specs.Runs.{System, Event, Moves}
 use Rattle.model.specs.Opened.{New, ReachedFits}
+use Rattle.model.specs.Law.{FreeWhenLost, OtherCallsEnd}
 
 -- how many nodes a trail has
 abbrev pub trailLength : Trail → ℕ
@@ -38,3 +39,10 @@ module _ {D W A B : Type 0} (X : Setting D W A B) where
 
   abbrev pub ReachedDataFits : Type 0
   ReachedDataFits = (F : System D W A B) → CanExist F → ReachedFits X F
+
+  -- with nothing running, some node is free exactly when some node is out of reach
+  abbrev pub FreeExactlyWhenLost : Type 0
+  FreeExactlyWhenLost = (F : System D W A B) → CanExist F → FreeWhenLost X F
+
+  abbrev pub CallsEndWithinSixteen : Type 0
+  CallsEndWithinSixteen = (F : System D W A B) → CanExist F → OtherCallsEnd X F

@@ -1,5 +1,6 @@
 // The model of the shared store: the types that the program and the law share.
 pub mod calls;
+pub mod ending;
 pub mod existing;
 pub mod nodes;
 pub mod outcomes;

@@ -1,0 +1,16 @@
+// What is promised of every run of the model, for every kind of data and every two search orders.
+ghost use Prim.Native.Nat.{ℕ};
+ghost use Rattle.model.specs.Setting.{settingOf};
+ghost use Rattle.model.specs.Existing.{FreeExactlyWhenLost, CallsEndWithinSixteen};
+use kinds::kind::Kind;
+use orders::order::Order;
+
+// With nothing running, some node is free exactly when some node is out of reach.
+pub fn free_exactly_when_lost<K: Kind, U: Order, V: Order>()
+    ensures { λ _. ⌜ ((N M : ℕ) → FreeExactlyWhenLost (settingOf (K·Kind .suits) (K·Kind .worth) (K·Kind .none) (U·Order .numbers) (U·Order .horizon) (U·Order .due) (V·Order .numbers) (V·Order .horizon) (V·Order .due) N M)) ⌝ }
+{}
+
+// A call that is neither Make nor walk ends within sixteen turns of its own.
+pub fn calls_end_within_sixteen<K: Kind, U: Order, V: Order>()
+    ensures { λ _. ⌜ ((N M : ℕ) → CallsEndWithinSixteen (settingOf (K·Kind .suits) (K·Kind .worth) (K·Kind .none) (U·Order .numbers) (U·Order .horizon) (U·Order .due) (V·Order .numbers) (V·Order .horizon) (V·Order .due) N M)) ⌝ }
+{}
