@@ -24,3 +24,4 @@ pub mod Others
 pub mod BriefCalls
 pub mod OtherCallsEnd
 pub mod NewOpened
+pub mod Sixteen

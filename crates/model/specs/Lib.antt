@@ -15,3 +15,4 @@ pub mod Opened
 pub mod Law
 pub mod Existing
 pub mod Shown
+pub mod Sixteen

@@ -2,6 +2,7 @@
 ghost use Prim.Native.Nat.{ℕ};
 ghost use Rattle.model.specs.Setting.{settingOf};
 ghost use Rattle.model.specs.Existing.{FreeExactlyWhenLost, CallsEndWithinSixteen};
+ghost use Rattle.model.specs.Sixteen.{SixteenIsReached};
 use kinds::kind::Kind;
 use orders::order::Order;
 
@@ -13,4 +14,9 @@ pub fn free_exactly_when_lost<K: Kind, U: Order, V: Order>()
 // A call that is neither Make nor walk ends within sixteen turns of its own.
 pub fn calls_end_within_sixteen<K: Kind, U: Order, V: Order>()
     ensures { λ _. ⌜ ((N M : ℕ) → CallsEndWithinSixteen (settingOf (K·Kind .suits) (K·Kind .worth) (K·Kind .none) (U·Order .numbers) (U·Order .horizon) (U·Order .due) (V·Order .numbers) (V·Order .horizon) (V·Order .due) N M)) ⌝ }
+{}
+
+// No smaller bound would do: a Sweep with three kids to drop takes all sixteen.
+pub fn sixteen_is_reached()
+    ensures { λ _. ⌜ SixteenIsReached ⌝ }
 {}
