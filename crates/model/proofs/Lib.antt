@@ -25,3 +25,12 @@ pub mod BriefCalls
 pub mod OtherCallsEnd
 pub mod NewOpened
 pub mod Sixteen
+pub mod Rank
+pub mod RankSteps
+pub mod RankBeside
+pub mod MakeTells
+pub mod RankCalm
+pub mod RankBound
+pub mod TurnSteps
+pub mod Seekers
+pub mod MakesEnd

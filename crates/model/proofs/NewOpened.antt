@@ -13,6 +13,7 @@ use Rattle.model.specs.Opened.{New, Opened, Underway}
 use Rattle.model.specs.Law.{NewIsOpened}
 use Rattle.model.proofs.Fitting.{new-reaches}
 use Rattle.model.proofs.Kept.{new-kept}
+use Rattle.model.proofs.Seekers.{new-seekers-open}
 
 pub new-is-opened : {D W A B : Type 0} (X : Setting D W A B) → NewIsOpened X
 new-is-opened {D} X F s asked n m =
@@ -22,6 +23,7 @@ new-is-opened {D} X F s asked n m =
     record {
       limits = n .limits;
       sound = K .sound;
+      seeking = new-seekers-open X F is;
       sized = n .sized;
       agrees = record {
         slots = fun-ext (λ q. fun-ext (λ i. m .slots q i ∙ sym (ap (λ t. t .slot q i) is)));

@@ -26,11 +26,16 @@ abbrev picking : (ℕ → ℕ) → ℕ → ℕ
 picking o = upd o 1 (o 1 - 1)
 
 picks-one : (m : ℕ) (o : ℕ → ℕ) (x : ℕ) → 1 ≤ o 1 → IsNumber m x → Asks (falling m) true o (picking o) 1 x
-picks-one m o x some is = record { rests = λ e. absurd (true≢false e); picks = λ _. record {
-  numbers-stay = refl; span-stays = refl;
-  others-stay = λ q n party other number. upd-other o 1 q (o 1 - 1) other;
-  answers = λ party. record { number = is; sooner = λ n number other. omega (arith, upd-same o 1 (o 1 - 1)) };
-  refuses = λ no-party. absurd (no-party (omega arith, omega arith)) } }
+picks-one m o x some is = record {
+  rests = λ e. absurd (true≢false e);
+  picks = λ _. record {
+    numbers-stay = refl;
+    span-stays = refl;
+    others-stay = λ q n party other number. upd-other o 1 q (o 1 - 1) other;
+    answers = λ party. record { number = is; sooner = λ n number other. omega (arith, upd-same o 1 (o 1 - 1)) };
+    refuses = λ no-party. absurd (no-party (omega arith, omega arith));
+  };
+}
 
 rests : (m : ℕ) (o : ℕ → ℕ) (x : ℕ) → Asks (falling m) false o o 1 x
 rests m o x = record { picks = λ e. absurd (true≢false (sym e)); rests = λ _. refl }

@@ -10,7 +10,7 @@ use Rattle.model.specs.Inv.{inSlots, inBoxes, inTrays, inKids, carried}
 use Rattle.model.specs.Setting.{Setting}
 use Rattle.model.specs.Runs.{System, Event, Moves}
 use Rattle.model.specs.Opened.{New, ReachedFits}
-use Rattle.model.specs.Law.{FreeWhenLost, OtherCallsEnd}
+use Rattle.model.specs.Law.{FreeWhenLost, MakesEnd, OtherCallsEnd}
 
 -- how many nodes a trail has
 abbrev pub trailLength : Trail → ℕ
@@ -46,3 +46,7 @@ module _ {D W A B : Type 0} (X : Setting D W A B) where
 
   abbrev pub CallsEndWithinSixteen : Type 0
   CallsEndWithinSixteen = (F : System D W A B) → CanExist F → OtherCallsEnd X F
+
+  -- a Make ends within its bound unless at some moment no node is free
+  abbrev pub MakesEndWhileANodeIsFree : Type 0
+  MakesEndWhileANodeIsFree = (F : System D W A B) → CanExist F → MakesEnd X F

@@ -11,7 +11,7 @@ use Rattle.model.specs.State.{kidAt, Trail, no-trail, along, newStore, last}
 use Rattle.model.specs.Checks.{beginFault, isWalking, givenBy}
 use Rattle.model.specs.Begins.{kidOf}
 use Rattle.model.specs.Reach.{Reached, InTerm}
-use Rattle.model.specs.Sound.{Sound}
+use Rattle.model.specs.Sound.{Sound, SeekersOpen}
 use Rattle.model.specs.Setting.{Setting, WithinLimits}
 use Rattle.model.specs.Plain.{Plain, Ask, WorksOut}
 use Rattle.model.specs.Runs.{System}
@@ -90,6 +90,7 @@ module _ {D W A B : Type 0} (X : Setting D W A B) where
   pub record Opened (F : System D W A B) (s : Plain D) (asked : ℕ → Ask D) : Type 0 where
     pub limits : WithinLimits X
     pub sound : Sound (X .parties) (X .nodes) (F .store)
+    pub seeking : SeekersOpen (X .parties) (F .store)
     pub sized : Sized F
     pub agrees : Agrees F s
     pub fits : ReachedFits F

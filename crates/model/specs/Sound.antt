@@ -33,6 +33,10 @@ opensAt c = elim c [ OpenTray ↦ false | ReadTray ↦ true | LookForNode ↦ tr
 abbrev pub opens : {D : Type 0} → Running D → Bool
 opens r = elim r [ Works j c ↦ elim j [ Makes plan ↦ opensAt c | Sweeps ↦ false ] | Idle ↦ false | Reads g ↦ false | GoesDown k ↦ false | Keeps i ↦ false | Drops i ↦ false | Hands i q ↦ false | Fetches i ↦ false | TakesOut i v ↦ false | WalkReads t g ↦ false | WalkGoesDown t k ↦ false ]
 
+-- while a Make seeks a node, its tray is not closed
+abbrev pub SeekersOpen : {D : Type 0} → ℕ → Store D → Type 0
+SeekersOpen N s = (q : ℕ) → 1 ≤ q → q ≤ N → opens (s .run q) ≡ true → s .tray q ≢ Closed
+
 -- a trail is a path from the node of its slot along kids, and the running call does not take from that slot
 abbrev pub TrailAt : (ℕ → Kids) → (ℕ → ℕ) → ℕ → Trail → Type 0
 TrailAt kids slots source no-trail = Unit {0}
