@@ -21,7 +21,7 @@ turn-passed N M p l r h =
     let i = is-between 1 N p (u .0) in
     (i .0, i .1, passes (isIdle r) NothingToTurn [] (w .1) .0)
 
-walking-runs : {D : Type 0} (r : Running D) → not (isWalking r) ≡ false → isIdle r ≡ false
+pub walking-runs : {D : Type 0} (r : Running D) → not (isWalking r) ≡ false → isIdle r ≡ false
 walking-runs Idle h = h
 walking-runs (Reads g) h = refl
 walking-runs (GoesDown k) h = refl
@@ -49,3 +49,10 @@ walk-turn-walks N M p l r h =
     let u = passes (not (between 1 N p)) NoSuchParty ((short, ShortList) ∷ (not (isWalking r), NothingToTurn) ∷ []) h in
     let v = passes short ShortList ((not (isWalking r), NothingToTurn) ∷ []) (u .1) in
     not-false (isWalking r) (passes (not (isWalking r)) NothingToTurn [] (v .1) .0)
+
+-- a Turn that is no walk's passes its checks only where no walk runs
+pub turn-walks-not : {D : Type 0} (N M p : ℕ) (l : Lengths) (r : Running D) → turnFault N M p l r ≡ None → isWalking r ≡ false
+turn-walks-not N M p l r h =
+    let u = passes (not (between 1 N p)) NoSuchParty ((ltb (l .entries) M, ShortList) ∷ (isWalking r, Busy) ∷ (isIdle r, NothingToTurn) ∷ []) h in
+    let v = passes (ltb (l .entries) M) ShortList ((isWalking r, Busy) ∷ (isIdle r, NothingToTurn) ∷ []) (u .1) in
+    passes (isWalking r) Busy ((isIdle r, NothingToTurn) ∷ []) (v .1) .0

@@ -47,7 +47,7 @@ module _ {D W A B : Type 0} (X : Setting D W A B) (F G : System D W A B) (K : Ke
   place-picked j (CountKid v k) e = tt
   place-picked j (LinkKid v k w) e = tt
 
-  picked : (r : Running D) → F .store .run p ≡ r → Picked (X .parties) (X .nodes) (T .pick) r
+  pub picked : (r : Running D) → F .store .run p ≡ r → Picked (X .parties) (X .nodes) (T .pick) r
   picked Idle e = tt
   picked (Reads g) e = tt
   picked (GoesDown k) e = tt

@@ -152,14 +152,14 @@ pub data-after : {D : Type 0} (W : Type 0) (N M : ℕ) (s : Store D) (info : ℕ
 data-after W N M s info p x = data-running W N M s info p x (s .slot p) (last s p) (s .run p)
 
 -- what roots and kids of the new store are reached in the old one, all is
-reach-into : {D : Type 0} (N : ℕ) (s t : Store D) → ((q i : ℕ) → 1 ≤ q → q ≤ N → 1 ≤ i → i ≤ lastSlot → t .slot q i ≢ 0 → Reached N s (t .slot q i)) → ((q : ℕ) → 1 ≤ q → q ≤ N → t .inbox q ≢ 0 → Reached N s (t .inbox q))
+pub reach-into : {D : Type 0} (N : ℕ) (s t : Store D) → ((q i : ℕ) → 1 ≤ q → q ≤ N → 1 ≤ i → i ≤ lastSlot → t .slot q i ≢ 0 → Reached N s (t .slot q i)) → ((q : ℕ) → 1 ≤ q → q ≤ N → t .inbox q ≢ 0 → Reached N s (t .inbox q))
     → ((n : ℕ) → Reached N s n → t .kids n ≡ s .kids n) → {n : ℕ} → Reached N t n → Reached N s n
 reach-into N s t f g k (by-slot q i a b c d e z) = subst (Reached N s) e (f q i a b c d (λ y. z (sym e ∙ y)))
 reach-into N s t f g k (by-box q a b e z) = subst (Reached N s) e (g q a b (λ y. z (sym e ∙ y)))
 reach-into N s t f g k (by-kid m j r e z) = let o = reach-into N s t f g k r in by-kid m j o (ap (λ u. kidAt u j) (sym (k m o)) ∙ e) z
 
 -- a slot filled with v, whose kids are reached already, adds v alone
-reach-more : (N : ℕ) (f : ℕ → ℕ → ℕ) (b : ℕ → ℕ) (kids : ℕ → Kids) (p i v : ℕ) → ((k : Kid) → kidAt (kids v) k ≢ 0 → Reach N f b kids (kidAt (kids v) k)) → {n : ℕ} → Reach N (upd f p (upd (f p) i v)) b kids n → (n ≡ v) ⊎ Reach N f b kids n
+pub reach-more : (N : ℕ) (f : ℕ → ℕ → ℕ) (b : ℕ → ℕ) (kids : ℕ → Kids) (p i v : ℕ) → ((k : Kid) → kidAt (kids v) k ≢ 0 → Reach N f b kids (kidAt (kids v) k)) → {n : ℕ} → Reach N (upd f p (upd (f p) i v)) b kids n → (n ≡ v) ⊎ Reach N f b kids n
 reach-more N f b kids p i v g {n} (by-slot q k h1 h2 h3 h4 e z) =
     elim (cases-eq q p) [
       | inr d ↦ inr (by-slot q k h1 h2 h3 h4 (ap (λ g. g k) (sym (upd-other f p q (upd (f p) i v) d)) ∙ e) z)
@@ -183,7 +183,7 @@ new-reaches D N (by-box q a b e z) = z (sym e)
 new-reaches D N (by-kid m k r e z) = new-reaches D N r
 
 -- what a Make has written stays while its node's data does
-written-kept : {D : Type 0} (info info′ : ℕ → D) (x : Plan D) (c : Place) → FitPlace c → ((v : ℕ) → 1 ≤ v → relianceAt c .one ≡ v → info′ v ≡ info v) → WrittenSoFar info x c → WrittenSoFar info′ x c
+pub written-kept : {D : Type 0} (info info′ : ℕ → D) (x : Plan D) (c : Place) → FitPlace c → ((v : ℕ) → 1 ≤ v → relianceAt c .one ≡ v → info′ v ≡ info v) → WrittenSoFar info x c → WrittenSoFar info′ x c
 written-kept info info′ x OpenTray f h d = tt
 written-kept info info′ x ReadTray f h d = tt
 written-kept info info′ x LookForNode f h d = tt
@@ -203,7 +203,7 @@ written-kept info info′ x (WriteData n) f h d = tt
 written-kept info info′ x (CountKid v k) f h d = h v f refl ∙ d
 written-kept info info′ x (LinkKid v k w) f h d = h v (f .0) refl ∙ d
 
-afterKid-written : {D : Type 0} (info : ℕ → D) (n : ℕ) (k : Kid) (x : Plan D) → WrittenSoFar info x (afterKid n k)
+pub afterKid-written : {D : Type 0} (info : ℕ → D) (n : ℕ) (k : Kid) (x : Plan D) → WrittenSoFar info x (afterKid n k)
 afterKid-written info n First x = tt
 afterKid-written info n Second x = tt
 afterKid-written info n Third x = tt
@@ -316,10 +316,10 @@ module _ {D : Type 0} (suits : D → Given → Bool) (N M : ℕ) (s : Store D) (
     kept : (n : ℕ) → Reached N s n → t .kids n ≡ s .kids n
     reach : (n : ℕ) → Reached N t n → Reached N s n ⊎ (suits (info′ n) (givenBy (t .kids n)) ≡ true)
 
-  old-slots : (q i : ℕ) → 1 ≤ q → q ≤ N → 1 ≤ i → i ≤ lastSlot → s .slot q i ≢ 0 → Reached N s (s .slot q i)
+  pub old-slots : (q i : ℕ) → 1 ≤ q → q ≤ N → 1 ≤ i → i ≤ lastSlot → s .slot q i ≢ 0 → Reached N s (s .slot q i)
   old-slots q i h1 h2 h3 h4 z = by-slot q i h1 h2 h3 h4 refl z
 
-  old-boxes : (q : ℕ) → 1 ≤ q → q ≤ N → s .inbox q ≢ 0 → Reached N s (s .inbox q)
+  pub old-boxes : (q : ℕ) → 1 ≤ q → q ≤ N → s .inbox q ≢ 0 → Reached N s (s .inbox q)
   old-boxes q h1 h2 z = by-box q h1 h2 refl z
 
   near-reach : (t : Store D) → Near t → {n : ℕ} → Reached N t n → Reached N s n
@@ -346,11 +346,11 @@ module _ {D : Type 0} (suits : D → Given → Bool) (N M : ℕ) (s : Store D) (
   }
 
   -- one of p's slots is written with what is reached, or 0; and so an inbox
-  slot-reached : (j v : ℕ) → (v ≢ 0 → Reached N s v) → (q i : ℕ) → 1 ≤ q → q ≤ N → 1 ≤ i → i ≤ lastSlot → upd (s .slot) p (upd (s .slot p) j v) q i ≢ 0 → Reached N s (upd (s .slot) p (upd (s .slot p) j v) q i)
+  pub slot-reached : (j v : ℕ) → (v ≢ 0 → Reached N s v) → (q i : ℕ) → 1 ≤ q → q ≤ N → 1 ≤ i → i ≤ lastSlot → upd (s .slot) p (upd (s .slot p) j v) q i ≢ 0 → Reached N s (upd (s .slot) p (upd (s .slot p) j v) q i)
   slot-reached j v h q i x y c d = upd-all (λ k f. 1 ≤ k → k ≤ N → f i ≢ 0 → Reached N s (f i)) (s .slot) p (upd (s .slot p) j v)
       (λ x y. upd-all (λ m u. 1 ≤ m → m ≤ lastSlot → u ≢ 0 → Reached N s u) (s .slot p) j v (λ _ _. h) i (λ _ c d. old-slots p i x y c d) c d) q (λ _ x y. old-slots q i x y c d) x y
 
-  box-reached : (r v : ℕ) → (v ≢ 0 → Reached N s v) → (q : ℕ) → 1 ≤ q → q ≤ N → upd (s .inbox) r v q ≢ 0 → Reached N s (upd (s .inbox) r v q)
+  pub box-reached : (r v : ℕ) → (v ≢ 0 → Reached N s v) → (q : ℕ) → 1 ≤ q → q ≤ N → upd (s .inbox) r v q ≢ 0 → Reached N s (upd (s .inbox) r v q)
   box-reached r v h q x y = upd-all (λ k u. 1 ≤ k → k ≤ N → u ≢ 0 → Reached N s u) (s .inbox) r v (λ _ _. h) q (λ _ x y. old-boxes q x y) x y
 
   on : (j : Job D) (c d : Place) → Fine suits info (Works j c) → ((x : Plan D) → WrittenSoFar info x d) → Fine suits info (Works j d)
@@ -362,17 +362,17 @@ module _ {D : Type 0} (suits : D → Given → Bool) (N M : ℕ) (s : Store D) (
   backs Sweeps c h = tt
 
   -- the kid that a Make wants at k
-  abbrev wants : Plan D → Kid → ℕ
+  abbrev pub wants : Plan D → Kid → ℕ
   wants x k = cond (eqb (kidAt (x .kids) k) 0) 0 (s .slot p (kidAt (x .kids) k))
 
-  wants-none : (x : Plan D) (k : Kid) → kidAt (x .kids) k ≡ 0 → wants x k ≡ 0
+  pub wants-none : (x : Plan D) (k : Kid) → kidAt (x .kids) k ≡ 0 → wants x k ≡ 0
   wants-none x k z = cond-true (eqb (kidAt (x .kids) k) 0) 0 (s .slot p (kidAt (x .kids) k)) (eq-eqb (kidAt (x .kids) k) 0 z)
 
-  wants-some : (x : Plan D) (k : Kid) → kidAt (x .kids) k ≢ 0 → wants x k ≡ s .slot p (kidAt (x .kids) k)
+  pub wants-some : (x : Plan D) (k : Kid) → kidAt (x .kids) k ≢ 0 → wants x k ≡ s .slot p (kidAt (x .kids) k)
   wants-some x k z = cond-false (eqb (kidAt (x .kids) k) 0) 0 (s .slot p (kidAt (x .kids) k)) (ne-eqb (kidAt (x .kids) k) 0 z)
 
   -- the kids before the position h are as wanted, the others none
-  abbrev Shape : Plan D → Kids → ℕ → Type 0
+  abbrev pub Shape : Plan D → Kids → ℕ → Type 0
   Shape x ks h = (k : Kid) → (position k < h → kidAt ks k ≡ wants x k) × (h ≤ position k → kidAt ks k ≡ 0)
 
   -- the next kid of a Make, or its end
@@ -440,7 +440,7 @@ module _ {D : Type 0} (suits : D → Given → Bool) (N M : ℕ) (s : Store D) (
     after-kid Third sh = end sh
 
   -- the kids of v after a kid is linked
-  linked-shape : (y : Plan D) (v : ℕ) (k : Kid) (w : ℕ) → s .run p ≡ Works (Makes y) (LinkKid v k w) → Shape y (upd (s .kids) v (putKid (s .kids v) k w) v) (suc (position k))
+  pub linked-shape : (y : Plan D) (v : ℕ) (k : Kid) (w : ℕ) → s .run p ≡ Works (Makes y) (LinkKid v k w) → Shape y (upd (s .kids) v (putKid (s .kids v) k w) v) (suc (position k))
   linked-shape y v k w e i =
       let g = good N M s (S .inv) p a b (Makes y) (LinkKid v k w) e in
       let u = upd-same (s .kids) v (putKid (s .kids v) k w) in
@@ -572,9 +572,9 @@ module _ {D : Type 0} (suits : D → Given → Bool) (N M : ℕ) (s : Store D) (
         upd-other info v u (y .given) (λ z. alone-refs N M s (S .inv) p v a b v1 (omega arith) .no-one q h1 h2 d (o ∙ z))
 
   -- a step changes the data of no reached node, and of none that another carries
-  record Unseen (info′ : ℕ → D) : Type 0 where
-    seen : (n : ℕ) → Reached N s n → info′ n ≡ info n
-    others : (q : ℕ) → 1 ≤ q → q ≤ N → q ≢ p → (u : ℕ) → 1 ≤ u → reliance (s .run q) .one ≡ u → info′ u ≡ info u
+  pub record Unseen (info′ : ℕ → D) : Type 0 where
+    pub seen : (n : ℕ) → Reached N s n → info′ n ≡ info n
+    pub others : (q : ℕ) → 1 ≤ q → q ≤ N → q ≢ p → (u : ℕ) → 1 ≤ u → reliance (s .run q) .one ≡ u → info′ u ≡ info u
 
   same-data : Unseen info
   same-data = record { seen = λ n r. refl; others = λ q h1 h2 d u h3 o. refl }
@@ -600,7 +600,7 @@ module _ {D : Type 0} (suits : D → Given → Bool) (N M : ℕ) (s : Store D) (
   unseen-place (CountKid v k) j e = same-data
   unseen-place (LinkKid v k w) j e = same-data
 
-  unseen : (r : Running D) → s .run p ≡ r → Unseen (dataAt r info)
+  pub unseen : (r : Running D) → s .run p ≡ r → Unseen (dataAt r info)
   unseen Idle e = same-data
   unseen (Works j c) e = unseen-place c j e
   unseen (Reads g) e = same-data

@@ -21,7 +21,7 @@ use Rattle.model.specs.Inv.{inSlots, inBoxes, inTrays, inKids, carried}
 use Rattle.model.specs.Sound.{Sound}
 use Rattle.model.specs.Walks.{settledStore}
 use Rattle.model.specs.Setting.{Meaning, Setting, WithinLimits}
-use Rattle.model.specs.Runs.{System, Event, Moves, begin-refused, call-begun, walk-begun, turn-refused, turn, walk-turn-refused, walk-turn, Steps, moved, movedAs, Asks, asksNodes, asksParties, Log, Run, still, more}
+use Rattle.model.specs.Runs.{System, Event, Moves, begin-refused, call-begun, walk-begun, turn-refused, turn, walk-turn-refused, walk-turn, Steps, moved, movedAs, Asks, asksNodes, asksParties}
 use Rattle.model.specs.Opened.{New, Sized}
 use Rattle.model.specs.Existing.{CanExist, new, moved as then-moved, CountsAreReferences, NoNodeReachesItself, CountsAreAtMost, NoTrailOutgrowsTheNodes, trailLength}
 use Rattle.model.proofs.Accepted.{turn-passed, walk-turn-passed}
@@ -126,7 +126,3 @@ module _ {D W A B : Type 0} (X : Setting D W A B) where
       let e = existing-kept F c .sound .inv .counts n low in
       let N = X .parties in
       omega (arith, e, few-slots N n (F .store .slot), few-boxes N n (F .store .inbox), few-trays N n (F .store .tray), few-carriers N n (F .store .run), few-kids (X .nodes) n (F .store .kids))
-
-  pub run-keeps : {F G : System D W A B} {es : Log X} → Kept F → Run X F es G → Kept G
-  run-keeps K still = K
-  run-keeps K (more m r) = run-keeps (moves-keep K m) r

@@ -28,7 +28,8 @@ use Rattle.model.proofs.RankSteps.{PlaceRank, RunRank, rank-pos, Turned, own-t
 use Rattle.model.proofs.RankBeside.{Calm, calm-turn, beside-turn}
 use Rattle.model.proofs.RankCalm.{job-or-none, calm-started, calm-started-walk}
 use Rattle.model.proofs.RankBound.{rank-bounded}
-use Rattle.model.proofs.TurnSteps.{asks-nodes-at, asks-parties-at, no-nodes-asked, no-parties-asked, turn-not-ended, walk-turn-not-ended, span-kept, job-step, calm-step, making-tells}
+use Rattle.model.proofs.RefusedTurns.{turn-refusal, walk-turn-refusal}
+use Rattle.model.proofs.TurnSteps.{asks-nodes-at, asks-parties-at, no-nodes-asked, no-parties-asked, span-kept, job-step, calm-step, making-tells}
 use Rattle.model.proofs.Seekers.{existing-seekers-open}
 
 -- an order's dues are below its span
@@ -233,12 +234,12 @@ module _ {D W A B : Type 0} (X : Setting D W A B) where
         beside (calm-after F G c w (moves-keep X (w .kept) (walk-begun {l = l} s worths h y t g)) q ne
         (subst (λ v. Calm (F .store) v q) (sym (ap (λ H. H .store) g)) (calm-started-walk (F .store) q (ap (waits (F .store .count)) idle) (d .slot) s)) (ap (λ H. H .node-order) g) (ap (λ H. H .party-order) g)) refl
     make-move {F} {G} c {o = o} w free (turn-refused {p = q} {l = l} r h t g) =
-        beside (subst (λ H. Making H c) (sym g) w) (and-right (eqb p q) (isAccepted o) (ap isAccepted t ∙ turn-not-ended (X .parties) (X .nodes) q l (F .store .run q) r h))
+        beside (subst (λ H. Making H c) (sym g) w) (and-right (eqb p q) (isAccepted o) (ap isAccepted t ∙ turn-refusal (X .parties) (X .nodes) q l (F .store .run q) r h))
     make-move {F} {G} c w free (turn {p = q} {l = l} h T) =
         let u = turn-passed (X .parties) (X .nodes) q l (F .store .run q) h in
         turn-goes c (turns q l) w (moves-keep X (w .kept) (turn {l = l} h T)) free q refl (u .0) (u .1) (u .2) T
     make-move {F} {G} c {o = o} w free (walk-turn-refused {p = q} {l = l} r h t g) =
-        beside (subst (λ H. Making H c) (sym g) w) (and-right (eqb p q) (isAccepted o) (ap isAccepted t ∙ walk-turn-not-ended (X .parties) (X .nodes) q l (F .store .run q) r h))
+        beside (subst (λ H. Making H c) (sym g) w) (and-right (eqb p q) (isAccepted o) (ap isAccepted t ∙ walk-turn-refusal (X .parties) (X .nodes) q l (F .store .run q) r h))
     make-move {F} {G} c w free (walk-turn {p = q} {l = l} h T) =
         let u = walk-turn-passed (X .parties) (X .nodes) q l (F .store .run q) h in
         turn-goes c (walk-turns q l) w (moves-keep X (w .kept) (walk-turn {l = l} h T)) free q refl (u .0) (u .1) (u .2) T

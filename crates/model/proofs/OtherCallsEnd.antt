@@ -20,6 +20,7 @@ use Rattle.model.specs.Runs.{System, Event, begins, turns, walk-turns, Moves, 
 use Rattle.model.specs.Law.{isBrief, OtherCallsEnd}
 use Rattle.model.proofs.Accepted.{turn-passed, walk-turn-walks}
 use Rattle.model.proofs.Begins.{accepted-idle}
+use Rattle.model.proofs.RefusedTurns.{turn-refusal, walk-turn-refusal}
 use Rattle.model.proofs.BriefCalls.{left, EndsBy, Nearer, nearer, some-left}
 use Rattle.model.proofs.Kept.{Kept, moves-keep}
 use Rattle.model.proofs.Others.{partyOf, stepped-own, others-run-on}
@@ -51,29 +52,6 @@ brief-not-walking (TakesOut i v) h w = true≢false (sym w)
 brief-not-walking (Works j c) h w = true≢false (sym w)
 brief-not-walking (WalkReads t g) h w = true≢false (sym h)
 brief-not-walking (WalkGoesDown t k) h w = true≢false (sym h)
-
--- what a Turn is refused for ends no call
-module _ (P : Refusal → Type 0) where
-  refused-by : (b : Bool) (e : Refusal) (rest : List (Bool × Refusal)) → P e → ((f : Refusal) → firstFault rest ≡ Some f → P f) → (f : Refusal) → firstFault ((b, e) ∷ rest) ≡ Some f → P f
-  refused-by true e rest h g f q = subst P (let u : e ≡ f = cc in u) h
-  refused-by false e rest h g f q = g f q
-
-  refused-by-none : (f : Refusal) → firstFault [] ≡ Some f → P f
-  refused-by-none f q = let u : _≡_ {A = ℕ} 0 1 = cc in absurd (omega arith)
-
-turn-refusal : {D : Type 0} (N M p : ℕ) (l : Lengths) (r : Running D) (e : Refusal) → turnFault N M p l r ≡ Some e → endsCall e ≡ false
-turn-refusal N M p l r e h =
-    let P : Refusal → Type 0 = λ f. endsCall f ≡ false in
-    refused-by P (not (between 1 N p)) NoSuchParty ((ltb (l .entries) M, ShortList) ∷ (isWalking r, Busy) ∷ (isIdle r, NothingToTurn) ∷ []) refl
-    (refused-by P (ltb (l .entries) M) ShortList ((isWalking r, Busy) ∷ (isIdle r, NothingToTurn) ∷ []) refl
-    (refused-by P (isWalking r) Busy ((isIdle r, NothingToTurn) ∷ []) refl (refused-by P (isIdle r) NothingToTurn [] refl (refused-by-none P)))) e h
-
-pub walk-turn-refusal : {D : Type 0} (N M p : ℕ) (l : Lengths) (r : Running D) (e : Refusal) → walkTurnFault N M p l r ≡ Some e → endsCall e ≡ false
-walk-turn-refusal N M p l r e h =
-    let P : Refusal → Type 0 = λ f. endsCall f ≡ false in
-    let short : Bool = ltb (l .entries) M || (ltb (l .marks) M || ltb (l .worths) M) in
-    refused-by P (not (between 1 N p)) NoSuchParty ((short, ShortList) ∷ (not (isWalking r), NothingToTurn) ∷ []) refl
-    (refused-by P short ShortList ((not (isWalking r), NothingToTurn) ∷ []) refl (refused-by P (not (isWalking r)) NothingToTurn [] refl (refused-by-none P))) e h
 
 module _ {D W A B : Type 0} (X : Setting D W A B) where
   module _ (F : System D W A B) (p x : ℕ) (d : Decision D W) where

@@ -39,7 +39,7 @@ cond-map f false x y u v h k = k
 within : (n x : ℕ) → between 1 n x ≡ true → (1 ≤ x) × (x ≤ n)
 within n x h = let u = and-parts (leb 1 x) (leb x n) h in (leb-true 1 x (u .0), leb-true x n (u .1))
 
-is-within : (n x : ℕ) → 1 ≤ x → x ≤ n → between 1 n x ≡ true
+pub is-within : (n x : ℕ) → 1 ≤ x → x ≤ n → between 1 n x ≡ true
 is-within n x h k = and-from (leb 1 x) (leb x n) (le-leb 1 x h) (le-leb x n k)
 
 module _ {D : Type 0} (W : Type 0) (N M : ℕ) (s : Store D) (info : ℕ → D) (p x : ℕ) where

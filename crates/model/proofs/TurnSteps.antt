@@ -59,30 +59,6 @@ no-parties-asked (Fetches i) h = refl
 no-parties-asked (Hands i q) h = refl
 no-parties-asked (TakesOut i v) h = refl
 
--- A refused Turn is not counted.
-
-fault-is : (P : Refusal → Type 0) (b : Bool) (e f : Refusal) (rest : List (Bool × Refusal)) → firstFault ((b, e) ∷ rest) ≡ Some f → P e → (firstFault rest ≡ Some f → P f) → P f
-fault-is P true e f rest h a k = subst P (let u : e ≡ f = cc in u) a
-fault-is P false e f rest h a k = k h
-
-no-fault : (P : Type 0) (f : Refusal) → firstFault [] ≡ Some f → P
-no-fault P f h = absurd (let u : _≡_ {A = ℕ} 0 1 = cc in omega arith)
-
-pub turn-not-ended : {D : Type 0} (N M p : ℕ) (l : Lengths) (r : Running D) (f : Refusal) → turnFault N M p l r ≡ Some f → endsCall f ≡ false
-turn-not-ended N M p l r f h =
-    let P : Refusal → Type 0 = λ e. endsCall e ≡ false in
-    fault-is P (not (between 1 N p)) NoSuchParty f ((ltb (l .entries) M, ShortList) ∷ (isWalking r, Busy) ∷ (isIdle r, NothingToTurn) ∷ []) h refl
-    (λ h. fault-is P (ltb (l .entries) M) ShortList f ((isWalking r, Busy) ∷ (isIdle r, NothingToTurn) ∷ []) h refl
-    (λ h. fault-is P (isWalking r) Busy f ((isIdle r, NothingToTurn) ∷ []) h refl
-    (λ h. fault-is P (isIdle r) NothingToTurn f [] h refl (no-fault (P f) f))))
-
-pub walk-turn-not-ended : {D : Type 0} (N M p : ℕ) (l : Lengths) (r : Running D) (f : Refusal) → walkTurnFault N M p l r ≡ Some f → endsCall f ≡ false
-walk-turn-not-ended N M p l r f h =
-    let P : Refusal → Type 0 = λ e. endsCall e ≡ false in
-    fault-is P (not (between 1 N p)) NoSuchParty f ((ltb (l .entries) M || (ltb (l .marks) M || ltb (l .worths) M), ShortList) ∷ (not (isWalking r), NothingToTurn) ∷ []) h refl
-    (λ h. fault-is P (ltb (l .entries) M || (ltb (l .marks) M || ltb (l .worths) M)) ShortList f ((not (isWalking r), NothingToTurn) ∷ []) h refl
-    (λ h. fault-is P (not (isWalking r)) NothingToTurn f [] h refl (no-fault (P f) f)))
-
 pub span-kept : {O : Type 0} (m : Meaning O) (asked : Bool) (old later : O) (p x : ℕ) → Asks m asked old later p x → m .horizon later ≡ m .horizon old
 span-kept m true old later p x a = a .picks refl .span-stays
 span-kept m false old later p x a = ap (m .horizon) (a .rests refl)

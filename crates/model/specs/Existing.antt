@@ -3,11 +3,12 @@ use Prim.Native.Nat.{ℕ, _+_, _≤_}
 use mathlib.Core.Path.{_≡_}
 use lib.ListN.{length}
 use mathlib.Core.List.{_∷_}
-use Rattle.model.specs.Types.{Outcome}
+use Rattle.model.specs.Types.{Situation, Outcome}
 use Rattle.model.specs.State.{Trail, no-trail, along}
 use Rattle.model.specs.Reach.{Acyclic}
 use Rattle.model.specs.Inv.{inSlots, inBoxes, inTrays, inKids, carried}
 use Rattle.model.specs.Setting.{Setting}
+use Rattle.model.specs.Plain.{WorksOut, TermHas}
 use Rattle.model.specs.Runs.{System, Event, Moves}
 use Rattle.model.specs.Opened.{New, ReachedFits}
 use Rattle.model.specs.Law.{FreeWhenLost, MakesEnd, OtherCallsEnd}
@@ -39,6 +40,18 @@ module _ {D W A B : Type 0} (X : Setting D W A B) where
 
   abbrev pub ReachedDataFits : Type 0
   ReachedDataFits = (F : System D W A B) → CanExist F → ReachedFits X F
+
+  -- w is what the node n works out to in the situation t
+  abbrev pub HasWorth : System D W A B → Situation → ℕ → W → Type 0
+  HasWorth F t n w = WorksOut (X .worth) (X .blank) (F .store .kids) (F .info) t n w
+
+  -- each node works out to a worth in each situation, and to one only
+  abbrev pub EachNodeHasOneWorth : Type 0
+  EachNodeHasOneWorth = (F : System D W A B) → CanExist F → (t : Situation) (n : ℕ) → (w : W) × HasWorth F t n w × ((v : W) → HasWorth F t n v → v ≡ w)
+
+  -- the number of different nodes of a term is one only
+  abbrev pub EachTermHasOneSize : Type 0
+  EachTermHasOneSize = (F : System D W A B) → CanExist F → (n l m : ℕ) → TermHas (X .nodes) (F .store .kids) n l → TermHas (X .nodes) (F .store .kids) n m → l ≡ m
 
   -- with nothing running, some node is free exactly when some node is out of reach
   abbrev pub FreeExactlyWhenLost : Type 0

@@ -2,7 +2,7 @@
 ghost use Prim.Native.Nat.{ℕ, _+_, _*_};
 ghost use mathlib.Core.Path.{_≡_};
 ghost use Rattle.model.specs.Setting.{settingOf};
-ghost use Rattle.model.specs.Existing.{CountsAreReferences, CountsAreAtMost, NoNodeReachesItself, NoTrailOutgrowsTheNodes, ReachedDataFits};
+ghost use Rattle.model.specs.Existing.{CountsAreReferences, CountsAreAtMost, NoNodeReachesItself, NoTrailOutgrowsTheNodes, ReachedDataFits, EachNodeHasOneWorth, EachTermHasOneSize};
 use crate::nodes::Node;
 use crate::words::Count;
 use kinds::kind::Kind;
@@ -42,4 +42,14 @@ pub fn no_trail_outgrows_the_nodes<K: Kind, U: Order, V: Order>()
 // The data of every node that a slot or inbox reaches fits its kids.
 pub fn reached_data_fits<K: Kind, U: Order, V: Order>()
     ensures { λ _. ⌜ ((N M : ℕ) → ReachedDataFits (settingOf (K·Kind .suits) (K·Kind .worth) (K·Kind .none) (U·Order .numbers) (U·Order .horizon) (U·Order .due) (V·Order .numbers) (V·Order .horizon) (V·Order .due) N M)) ⌝ }
+{}
+
+// In each situation a node works out to a worth, and to no other.
+pub fn each_node_has_one_worth<K: Kind, U: Order, V: Order>()
+    ensures { λ _. ⌜ ((N M : ℕ) → EachNodeHasOneWorth (settingOf (K·Kind .suits) (K·Kind .worth) (K·Kind .none) (U·Order .numbers) (U·Order .horizon) (U·Order .due) (V·Order .numbers) (V·Order .horizon) (V·Order .due) N M)) ⌝ }
+{}
+
+// A term has one number of different nodes.
+pub fn each_term_has_one_size<K: Kind, U: Order, V: Order>()
+    ensures { λ _. ⌜ ((N M : ℕ) → EachTermHasOneSize (settingOf (K·Kind .suits) (K·Kind .worth) (K·Kind .none) (U·Order .numbers) (U·Order .horizon) (U·Order .due) (V·Order .numbers) (V·Order .horizon) (V·Order .due) N M)) ⌝ }
 {}

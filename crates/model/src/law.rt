@@ -1,0 +1,13 @@
+// The law of the shared store, for every kind of data and every two search orders, after every list of Begins and Turns.
+ghost use Prim.Native.Nat.{ℕ};
+ghost use Rattle.model.specs.Setting.{settingOf};
+ghost use Rattle.model.specs.Law.{StoreLaw};
+use kinds::kind::Kind;
+use orders::order::Order;
+
+// From any opened pair of a store and a plain store, calls under way included: the plain store runs through the same calls
+// with the same answers and refusals and agrees at the end; with nothing running, nodes are free exactly when nodes are out
+// of reach; Makes, other calls and walks end within their bounds. A new store is opened.
+pub fn store_law<K: Kind, U: Order, V: Order>()
+    ensures { λ _. ⌜ ((N M : ℕ) → StoreLaw (settingOf (K·Kind .suits) (K·Kind .worth) (K·Kind .none) (U·Order .numbers) (U·Order .horizon) (U·Order .due) (V·Order .numbers) (V·Order .horizon) (V·Order .due) N M)) ⌝ }
+{}
