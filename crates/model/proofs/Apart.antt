@@ -1,18 +1,16 @@
 -- What one party's Begin or Turn leaves of another: its slots, trail, running call and notes, and all that it relies on.
 use Prim.Native.Nat.{ℕ, _≤_}
 use mathlib.Core.Path.{_≡_, refl, sym, _∙_, ap, subst}
-use mathlib.Core.Logic.{_⊎_, inl, inr, _≢_}
-use mathlib.Core.Bool.{Bool, true, false, cond}
+use mathlib.Core.Logic.{inl, inr, _≢_}
+use mathlib.Core.Bool.{true, false}
 use mathlib.Core.List.{[]}
 use lib.Dec.{eqb}
-use Rattle.std.specs.declared.option.Option.{Option}
 use Rattle.std.specs.declared.option.Option.the-variants.{Some, None}
 use Rattle.std.proofs.shelf.Tests.{cond-both}
 use Rattle.model.specs.Fun.{upd}
-use Rattle.model.specs.Types.{Kid, Kids, OpenTray, LookForNode, Makes, Sweeps, ReadNothing, ReadData, ReadFirst, ReadSecond, Running, Idle, Reads, GoesDown, Keeps, Drops, Hands, Fetches, TakesOut, Works, WalkReads, WalkGoesDown, Call, Enter, Up, Leave, Read, Down, Keep, Drop, Hand, Fetch, Make, Sweep, Asked, AsksCall, AsksWalk, Outcome, Told, Tells, Settles, Decision, Situation}
-use Rattle.model.specs.State.{kidAt, Trail, no-trail, along, shorter, longer, lastOf, Store, setTrail, setRun, last}
+use Rattle.model.specs.Types.{Kids, OpenTray, LookForNode, Makes, Sweeps, ReadNothing, ReadData, ReadFirst, ReadSecond, Running, Idle, Reads, GoesDown, Keeps, Drops, Hands, Fetches, TakesOut, Works, WalkReads, WalkGoesDown, Call, Enter, Up, Leave, Read, Down, Keep, Drop, Hand, Fetch, Make, Sweep, Asked, AsksCall, AsksWalk, Outcome, Told, Tells, Settles, Decision, Situation}
+use Rattle.model.specs.State.{kidAt, Trail, no-trail, along, shorter, longer, lastOf, setTrail, setRun, last}
 use Rattle.model.specs.Steps.{decision, stepped, dataAfter}
-use Rattle.model.specs.Checks.{isIdle}
 use Rattle.model.specs.Begins.{kidOf, started, startedWalk}
 use Rattle.model.specs.Walks.{Notes, firstUnmarked, goneUp, resumes, settledStore}
 use Rattle.model.specs.Reach.{by-slot, Reached, InTerm}
@@ -20,10 +18,10 @@ use Rattle.model.specs.Inv.{reliance, needsOf}
 use Rattle.model.specs.Sound.{onTrail, TrailAt, Sound}
 use Rattle.model.specs.Setting.{Setting}
 use Rattle.model.specs.Plain.{Plain, Ask, WorksOut}
-use Rattle.model.specs.Runs.{System, movedAs, moved, Steps, withStore, withWalk}
+use Rattle.model.specs.Runs.{System, movedAs, Steps, withStore, withWalk}
 use Rattle.model.specs.Opened.{OnTrail, ReadSoFar, Agrees, AskedFor, WalkSoFar, WalkAsked, Underway}
 use Rattle.model.proofs.Explicit.{down-to, turnAt}
-use Rattle.model.proofs.Sums.{upd-same, upd-other}
+use Rattle.model.proofs.Sums.{upd-other}
 use Rattle.model.proofs.Make.{good}
 use Rattle.model.proofs.Stays.{Stands, Frame, turn-frame}
 use Rattle.model.proofs.Trails.{last-reached, term-reached}

@@ -1,9 +1,9 @@
 -- How many references a node can have at the most.
-use Prim.Native.Nat.{ℕ, zero, suc, _+_, _*_, _≤_, _<_}
-use mathlib.Core.Path.{_≡_, refl, ap, _∙_}
+use Prim.Native.Nat.{ℕ, zero, suc, _+_, _*_, _≤_}
+use mathlib.Core.Path.{_≡_, ap}
 use mathlib.Core.Logic.{inl, inr}
 use native.Mathlib.Omega.{arith}
-use native.Mathlib.Nat.{mul-suc, suc-mul, add-mul, mul-comm}
+use native.Mathlib.Nat.{add-mul}
 use Rattle.model.specs.Fun.{sumTo, is}
 use Rattle.model.specs.Types.{Kids, Tray, Running}
 use Rattle.model.specs.Inv.{occ, carry, reliance, trayNode, inSlots, inBoxes, inTrays, inKids, carried}

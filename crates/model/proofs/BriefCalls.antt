@@ -1,20 +1,17 @@
 -- Every call that is neither Make nor walk ends within sixteen turns of its own.
-use Prim.Native.Nat.{ℕ, _+_, _≤_, _<_}
-use mathlib.Core.Path.{_≡_, refl, sym, ap, subst, _∙_}
-use mathlib.Core.Bool.{Bool, true, false, cond, _&&_}
-use mathlib.Core.Logic.{_⊎_, inl, inr, _≢_}
-use mathlib.Core.List.{[], _∷_}
+use Prim.Native.Nat.{ℕ, _≤_, _<_}
+use mathlib.Core.Path.{_≡_, refl, sym}
+use mathlib.Core.Bool.{Bool, true, false, cond}
+use mathlib.Core.Logic.{_⊎_, inl, inr}
 use native.Mathlib.Omega.{arith}
 use lib.Dec.{eqb}
-use Rattle.std.proofs.shelf.Tests.{cases-eq, cond-both, eq-eqb, ne-eqb, true≢false, cases-bool}
+use Rattle.std.proofs.shelf.Tests.{cond-both, true≢false}
 use Rattle.refusals.specs.declared.Refusal.the-variants.{NoKid, InboxFull, InboxEmpty}
-use Rattle.model.specs.Types.{Kid, First, Second, Third, Tray, Closed, Open, Holding, Place, OpenTray, ReadTray, LookForNode, LockNode, Recheck, UnlockAndGoBack, ReadKid, ClearKid, UncountKid, Claim, Unlock, Offer, KeepForOneself, GiveBack, CloseTray, WriteData, CountKid, LinkKid, Job, Makes, Sweeps, Reading, ReadNothing, ReadData, ReadFirst, ReadSecond, Running, Idle, Reads, GoesDown, Keeps, Drops, Hands, Fetches, TakesOut, Works, WalkReads, WalkGoesDown, AtNode, Swept, Outcome, Refused, Begun, StillRunning, Ended, Address, Nowhere, CountOf, TrayOf, NoWord, CountWord, LockWord, KidWord, InboxWord, TrayWord, Stays, Fills, Lengthens, Told, Tells, Settles, Decision}
+use Rattle.model.specs.Types.{First, Second, Third, Tray, Closed, Open, Holding, Place, OpenTray, ReadTray, LookForNode, LockNode, Recheck, UnlockAndGoBack, ReadKid, ClearKid, UncountKid, Claim, Unlock, Offer, KeepForOneself, GiveBack, CloseTray, WriteData, CountKid, LinkKid, Makes, Sweeps, ReadNothing, ReadData, ReadFirst, ReadSecond, Running, Idle, Reads, GoesDown, Keeps, Drops, Hands, Fetches, TakesOut, Works, WalkReads, WalkGoesDown, AtNode, Swept, Refused, Address, Nowhere, CountOf, TrayOf, NoWord, LockWord, InboxWord, Stays, Fills, Lengthens, Told, Tells, Settles, Decision}
 use Rattle.model.specs.State.{kidAt, Store, last}
-use Rattle.model.specs.Steps.{between, afterKid, loaded, address, decide, decision, stepped, going, ending, ended-by, backward, offered, offeredToOneself, notTaken, onCount, onTray}
-use Rattle.model.specs.Checks.{isIdle}
+use Rattle.model.specs.Steps.{between, loaded, address, decide, going, ending, ended-by, backward, offered, offeredToOneself, notTaken, onCount, onTray}
 use Rattle.model.specs.Inv.{Fit, FitJob}
-use Rattle.model.specs.Setting.{Setting}
-use Rattle.model.specs.Runs.{System, Event, Moves, Steps, Log, Run, moved, movedAs, isEnd}
+use Rattle.model.specs.Runs.{isEnd}
 use Rattle.model.specs.Law.{isBrief}
 
 -- how many turns are left to a Sweep at the most

@@ -1,15 +1,13 @@
 -- The steps that fill or empty a slot: the end of Make, Drop, Hand, Fetch; and GivenKids.
-use Prim.Native.Nat.{ℕ, zero, suc, _+_, _-_, _≤_, _<_}
+use Prim.Native.Nat.{ℕ, suc, _+_, _-_, _≤_, _<_}
 use mathlib.Core.Path.{_≡_, refl, sym, _∙_, ap, subst}
-use mathlib.Core.Logic.{_⊎_, inl, inr, _≢_}
-use mathlib.Core.Bool.{Bool, true, false, cond}
+use mathlib.Core.Logic.{inl, inr, _≢_}
 use native.Mathlib.Omega.{arith}
 use lib.Dec.{eqb}
-use Rattle.std.proofs.shelf.Tests.{cases-eq, cases-lt, cond-both, eqb-true, eqb-false}
+use Rattle.std.proofs.shelf.Tests.{cases-eq, cond-both, eqb-true, eqb-false}
 use Rattle.model.specs.Fun.{upd, is}
-use Rattle.model.specs.Types.{Kid, First, Second, Third, Holding, WriteData, CountKid, LinkKid, Plan, Makes, Idle, Drops, Works, Drop, Hand, Fetch, Make}
+use Rattle.model.specs.Types.{Kid, First, Second, Third, Holding, WriteData, CountKid, LinkKid, Plan, Makes, Idle, Drops, Works}
 use Rattle.model.specs.State.{position, kidAt, putKid, Store, setCount, setKid, setSlot, setRun}
-use Rattle.model.specs.Reach.{kid}
 use Rattle.model.specs.Inv.{none, relianceAt, reliance, needsJob, trayNode, carry, inSlots, inBoxes, inTrays, carried, inKids, Own, Good, Bare, Inv}
 use Rattle.model.proofs.Explicit.{made, give-first, give-second, give-third, give-after, placeStep, turnAt}
 use Rattle.model.proofs.Sums.{upd-same, upd-other, is-same, is-other}

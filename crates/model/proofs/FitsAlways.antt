@@ -8,7 +8,7 @@ use Rattle.model.specs.Types.{Place, OpenTray, ReadTray, LookForNode, LockNode
 use Rattle.model.specs.Checks.{isIdle}
 use Rattle.model.specs.Setting.{Setting}
 use Rattle.model.specs.Runs.{System, Steps, asksNodes, asksParties}
-use Rattle.model.specs.Existing.{CanExist, ReachedDataFits}
+use Rattle.model.specs.Existing.{ReachedDataFits}
 use Rattle.model.proofs.Fitting.{StepIs, reached-data-fits}
 use Rattle.model.proofs.Kept.{Kept, existing-kept}
 use Rattle.model.proofs.Stepped.{PickedAt, Picked, stepped-is, fit-of}

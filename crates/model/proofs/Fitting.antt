@@ -3,19 +3,18 @@
 use Prim.Native.Nat.{ℕ, suc, _+_, _-_, _≤_, _<_}
 use mathlib.Core.Path.{_≡_, refl, sym, _∙_, ap, subst}
 use mathlib.Core.Logic.{_⊎_, inl, inr, _≢_}
-use mathlib.Core.Bool.{Bool, true, false, cond, _||_, not}
-use mathlib.Core.List.{[], _∷_}
+use mathlib.Core.Bool.{Bool, true, false, cond, not}
+use mathlib.Core.List.{[]}
 use native.Mathlib.Omega.{arith}
-use lib.Dec.{eqb, ltb}
+use lib.Dec.{eqb}
 use Rattle.std.specs.declared.option.Option.the-variants.{Some, None}
 use Rattle.std.proofs.shelf.Tests.{cases-eq, cond-both, cond-true, cond-false, eq-eqb, ne-eqb, eqb-true}
-use Rattle.refusals.specs.declared.Refusal.the-variants.{NoSuchParty, ShortList, Busy, NothingToTurn}
 use Rattle.kinds.specs.declared.given.Given.{Given}
 use Rattle.model.specs.Fun.{upd}
 use Rattle.model.specs.Types.{Kid, First, Second, Third, Kids, Tray, Closed, Open, Holding, Place, OpenTray, ReadTray, LookForNode, LockNode, Recheck, UnlockAndGoBack, ReadKid, ClearKid, UncountKid, Claim, Unlock, Offer, KeepForOneself, GiveBack, CloseTray, WriteData, CountKid, LinkKid, Plan, Job, Makes, Sweeps, Reading, ReadNothing, ReadData, ReadFirst, ReadSecond, Running, Idle, Reads, GoesDown, Keeps, Drops, Hands, Fetches, TakesOut, Works, WalkReads, WalkGoesDown, Call, Enter, Up, Leave, Read, Down, Keep, Drop, Hand, Fetch, Make, Sweep, AsksCall, Situation, Word, DataWord, CountOf, TrayOf, Nowhere, Outcome, Change, Told, Tells, Settles, Decision}
 use Rattle.model.specs.State.{position, kidAt, putKid, Trail, no-trail, along, shorter, longer, newStore, Store, setCount, setLock, setKid, setInbox, setTray, setSlot, setTrail, setRun, last}
 use Rattle.model.specs.Steps.{between, ownAddress, dataWritten, afterKid, address, loaded, decide, decision, stepped, dataAfter, going, fromThird, fromSecond, fromFirst}
-use Rattle.model.specs.Checks.{lastSlot, Lengths, firstFault, callFaults, beginFault, givenBy, isIdle, isWalking, turnFault, walkTurnFault}
+use Rattle.model.specs.Checks.{lastSlot, Lengths, firstFault, callFaults, beginFault, givenBy, isIdle}
 use Rattle.model.specs.Begins.{kidOf, started, startedWalk}
 use Rattle.model.specs.Walks.{Notes, firstUnmarked, goneUp, resumes, settledStore}
 use Rattle.model.specs.Reach.{Reach, by-slot, by-box, by-kid, Reached}
@@ -33,7 +32,7 @@ use Rattle.model.proofs.Make.{good, position-same, put-same, put-other, positi
 use Rattle.model.proofs.Stays.{out-empty, out-one}
 use Rattle.model.proofs.Trails.{last-reached}
 use Rattle.model.proofs.Accepted.{turn-passed, walk-turn-passed}
-use Rattle.model.proofs.Begins.{passes, is-between, accepted, make-passed}
+use Rattle.model.proofs.Begins.{accepted, make-passed}
 
 -- every reached node's data fits its kids; a Make's plan fits, and what it has written is the plan's
 pub record Fitting {D : Type 0} (suits : D → Given → Bool) (N : ℕ) (s : Store D) (info : ℕ → D) : Type 0 where

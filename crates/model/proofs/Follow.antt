@@ -1,8 +1,8 @@
 -- The plain store follows: the ends of Read, Down, Keep, Drop, Hand and Fetch, and every turn that ends nothing.
-use Prim.Native.Nat.{ℕ, _+_, _-_, _≤_}
+use Prim.Native.Nat.{ℕ, _≤_}
 use mathlib.Core.Path.{_≡_, refl, sym, _∙_, ap, subst}
-use mathlib.Core.Logic.{_⊎_, inl, inr, _≢_}
-use mathlib.Core.Bool.{Bool, true, false, cond}
+use mathlib.Core.Logic.{inl, inr, _≢_}
+use mathlib.Core.Bool.{Bool, false, cond}
 use lib.Dec.{eqb}
 use Rattle.std.proofs.shelf.Tests.{cases-eq, eq-eqb, ne-eqb, cond-false}
 use Rattle.refusals.specs.declared.Refusal.the-variants.{NoKid, InboxFull, InboxEmpty}
@@ -19,7 +19,7 @@ use Rattle.model.specs.Runs.{System}
 use Rattle.model.specs.Opened.{Agrees}
 use Rattle.model.proofs.Explicit.{down-to, turnAt}
 use Rattle.model.proofs.Sums.{upd-same, upd-other}
-use Rattle.model.proofs.Fitting.{reach-into, old-slots, old-boxes, slot-reached, box-reached}
+use Rattle.model.proofs.Fitting.{reach-into, slot-reached, box-reached}
 
 -- a walking party's trail is not the plain store's
 abbrev pub shown : {D : Type 0} → Running D → Trail → Trail

@@ -1,16 +1,16 @@
 -- The plain store follows every turn of a Make and of a Sweep.
-use Prim.Native.Nat.{ℕ, suc, _+_, _-_, _≤_, _<_}
+use Prim.Native.Nat.{ℕ, suc, _+_, _-_, _≤_}
 use mathlib.Core.Path.{_≡_, refl, sym, _∙_, ap, subst}
-use mathlib.Core.Logic.{_⊎_, inl, inr, _≢_}
+use mathlib.Core.Logic.{inl, inr, _≢_}
 use mathlib.Core.Bool.{Bool, true, false, cond}
 use native.Mathlib.Omega.{arith}
 use lib.Dec.{eqb}
 use Rattle.std.proofs.shelf.Tests.{cases-eq, eqb-true, cond-both}
 use Rattle.model.specs.Fun.{upd}
-use Rattle.model.specs.Types.{Kid, First, Second, Third, Kids, Tray, Closed, Open, Holding, Place, OpenTray, ReadTray, LookForNode, LockNode, Recheck, UnlockAndGoBack, ReadKid, ClearKid, UncountKid, Claim, Unlock, Offer, KeepForOneself, GiveBack, CloseTray, WriteData, CountKid, LinkKid, Plan, Job, Makes, Sweeps, Running, Idle, Works, Call, Make, Sweep, AsksCall, AtNode, Swept, Outcome, StillRunning, Ended}
-use Rattle.model.specs.State.{position, kidAt, putKid, Store, setCount, setLock, setKid, setTray, setSlot, setRun}
+use Rattle.model.specs.Types.{Kid, First, Second, Third, Kids, Tray, Closed, Open, Holding, Place, OpenTray, ReadTray, LookForNode, LockNode, Recheck, UnlockAndGoBack, ReadKid, ClearKid, UncountKid, Claim, Unlock, Offer, KeepForOneself, GiveBack, CloseTray, WriteData, CountKid, LinkKid, Plan, Job, Makes, Sweeps, Idle, Works, Call, Make, Sweep, AsksCall, AtNode, Swept, Outcome, StillRunning, Ended}
+use Rattle.model.specs.State.{position, kidAt, putKid, Store, setCount, setLock, setKid, setTray, setRun}
 use Rattle.model.specs.Steps.{afterKid}
-use Rattle.model.specs.Checks.{lastSlot, isWalking}
+use Rattle.model.specs.Checks.{isWalking}
 use Rattle.model.specs.Reach.{Reach, by-slot, by-box, by-kid, Reached}
 use Rattle.model.specs.Inv.{relianceAt}
 use Rattle.model.specs.Sound.{Sound}

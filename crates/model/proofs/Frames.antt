@@ -1,5 +1,5 @@
 -- What one party does leaves the others' claims standing.
-use Prim.Native.Nat.{ℕ, zero, suc, _+_, _-_, _≤_, _<_}
+use Prim.Native.Nat.{ℕ, _+_, _≤_, _<_}
 use mathlib.Core.Path.{_≡_, refl, sym, _∙_, ap, subst}
 use mathlib.Core.Logic.{_⊎_, inl, inr, _≢_}
 use native.Mathlib.Omega.{arith}
@@ -7,8 +7,7 @@ use Rattle.std.proofs.shelf.Tests.{cases-eq}
 use Rattle.model.specs.Fun.{upd, is}
 use Rattle.model.specs.Types.{Kid, Tray, Open, Holding, Place, OpenTray, ReadTray, LookForNode, LockNode, Recheck, UnlockAndGoBack, ReadKid, ClearKid, UncountKid, Claim, Unlock, Offer, KeepForOneself, GiveBack, CloseTray, WriteData, CountKid, LinkKid, Running, Idle, Reads, GoesDown, Keeps, Drops, Hands, Fetches, TakesOut, Works, WalkReads, WalkGoesDown}
 use Rattle.model.specs.State.{kidAt, putKid, Store, setCount, setLock, setKid, setInbox, setTray, setSlot, setRun}
-use Rattle.model.specs.Inv.{Reliance, relies, relianceAt, reliance, needsOf, trayNode, carry, inSlots, inBoxes, inKids, refs, Local, Own, LocalOf, Good, Bare, Inv}
-use Rattle.model.proofs.Explicit.{back}
+use Rattle.model.specs.Inv.{Reliance, relianceAt, reliance, needsOf, trayNode, carry, inSlots, inBoxes, inKids, refs, Local, Own, LocalOf, Good, Bare, Inv}
 use Rattle.model.proofs.Sums.{upd-same, upd-other}
 use Rattle.model.proofs.Refs.{carried-upd, kids-upd, trays-upd, carried-at, carried-two, trays-at, carry-one}
 

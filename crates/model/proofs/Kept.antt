@@ -1,29 +1,18 @@
 -- Every store that can exist is sound, and its orders are made for it.
-use Prim.Native.Nat.{ℕ, _+_, _*_, _^_, _≤_, _<_}
+use Prim.Native.Nat.{ℕ, _+_, _*_, _≤_}
 use mathlib.Core.Path.{_≡_, refl, sym, ap, subst, _∙_}
-use mathlib.Core.Bool.{Bool, true, false, not, _||_}
-use mathlib.Core.Logic.{_⊎_, inl, inr}
-use mathlib.Core.List.{[], _∷_}
+use mathlib.Core.Bool.{Bool, true, false}
 use native.Mathlib.Omega.{arith}
-use native.Mathlib.Nat.{mul-le-mul-right}
-use lib.Dec.{ltb}
-use Rattle.std.proofs.shelf.Tests.{cases-bool, cases-lt, not-false, true≢false}
-use Rattle.std.specs.declared.option.Option.the-variants.{None}
-use Rattle.refusals.specs.declared.Refusal.the-variants.{NoSuchParty, ShortList, Busy, NothingToTurn}
-use Rattle.orders.specs.Meaning.{Picked}
-use Rattle.model.specs.Types.{Kids, Reading, ReadNothing, ReadData, ReadFirst, ReadSecond, Running, Idle, Reads, GoesDown, Keeps, Drops, Hands, Fetches, TakesOut, Works, WalkReads, WalkGoesDown, AsksCall, AsksWalk, Outcome, Situation, Told, Tells, Settles, Decision}
-use Rattle.model.specs.State.{Store, newStore, last, kidAt}
-use Rattle.model.specs.Steps.{between, address, decision, stepped, looksAt, loaded, decide}
-use Rattle.model.specs.Checks.{Lengths, firstFault, isIdle, isWalking, turnFault, walkTurnFault}
-use Rattle.model.specs.Begins.{started, startedWalk}
-use Rattle.model.specs.Reach.{Acyclic}
-use Rattle.model.specs.Inv.{inSlots, inBoxes, inTrays, inKids, carried}
+use Rattle.std.proofs.shelf.Tests.{true≢false}
+use Rattle.model.specs.Types.{ReadNothing, ReadData, ReadFirst, ReadSecond, Running, Idle, Reads, GoesDown, Keeps, Drops, Hands, Fetches, TakesOut, Works, WalkReads, WalkGoesDown, Outcome, Situation, Told, Tells, Settles, Decision}
+use Rattle.model.specs.State.{last}
+use Rattle.model.specs.Steps.{address, decision, stepped, looksAt, loaded, decide}
+use Rattle.model.specs.Checks.{isIdle}
 use Rattle.model.specs.Sound.{Sound}
-use Rattle.model.specs.Walks.{settledStore}
 use Rattle.model.specs.Setting.{Meaning, Setting, WithinLimits}
 use Rattle.model.specs.Runs.{System, Event, Moves, begin-refused, call-begun, walk-begun, turn-refused, turn, walk-turn-refused, walk-turn, Steps, moved, movedAs, Asks, asksNodes, asksParties}
 use Rattle.model.specs.Opened.{New, Sized}
-use Rattle.model.specs.Existing.{CanExist, new, moved as then-moved, CountsAreReferences, NoNodeReachesItself, CountsAreAtMost, NoTrailOutgrowsTheNodes, trailLength}
+use Rattle.model.specs.Existing.{CanExist, new, moved as then-moved, CountsAreReferences, NoNodeReachesItself, CountsAreAtMost, NoTrailOutgrowsTheNodes}
 use Rattle.model.proofs.Accepted.{turn-passed, walk-turn-passed}
 use Rattle.model.proofs.Begins.{sound-started, sound-started-walk}
 use Rattle.model.proofs.Bounds.{few-slots, few-boxes, few-trays, few-carriers, few-kids}

@@ -1,13 +1,13 @@
 -- Every step of Make and Sweep keeps the invariant.
-use Prim.Native.Nat.{ℕ, zero, suc, _+_, _-_, _≤_, _<_}
+use Prim.Native.Nat.{ℕ, suc, _+_, _-_, _≤_, _<_}
 use mathlib.Core.Path.{_≡_, refl, sym, _∙_, ap, subst}
-use mathlib.Core.Logic.{_⊎_, inl, inr, _≢_}
-use mathlib.Core.Bool.{Bool, true, false, cond}
+use mathlib.Core.Logic.{inl, inr, _≢_}
+use mathlib.Core.Bool.{true}
 use native.Mathlib.Omega.{arith}
 use lib.Dec.{eqb}
 use Rattle.std.proofs.shelf.Tests.{cases-eq, cases-lt, cond-both, eqb-true, eqb-false}
 use Rattle.model.specs.Fun.{upd, is}
-use Rattle.model.specs.Types.{Kid, First, Second, Third, Kids, Tray, Closed, Open, Holding, Place, OpenTray, ReadTray, LookForNode, LockNode, Recheck, UnlockAndGoBack, ReadKid, ClearKid, UncountKid, Claim, Unlock, Offer, CloseTray, WriteData, Job, Makes, Sweeps, Running, Works, Up, Make, Sweep}
+use Rattle.model.specs.Types.{Kid, First, Second, Third, Kids, Tray, Closed, Open, Holding, Place, OpenTray, ReadTray, LookForNode, LockNode, Recheck, UnlockAndGoBack, ReadKid, ClearKid, UncountKid, Claim, Unlock, Offer, CloseTray, WriteData, Job, Makes, Sweeps, Running, Works, Up}
 use Rattle.model.specs.State.{position, kidAt, putKid, Store, setCount, setLock, setKid, setTray, setRun}
 use Rattle.model.specs.Steps.{afterKid}
 use Rattle.model.specs.Inv.{Reliance, relies, none, relianceAt, reliance, needsJob, trayNode, carry, Local, Own, FitPlace, FitJob, LocalOf, Good, Bare, Inv}

@@ -4,7 +4,7 @@ use mathlib.Core.Path.{_≡_, refl, sym, subst}
 use mathlib.Core.Logic.{_≢_}
 use Rattle.model.specs.Types.{Outcome}
 use Rattle.model.specs.Setting.{Setting}
-use Rattle.model.specs.Runs.{System, Event, begins, turns, walk-turns, Moves, begin-refused, call-begun, walk-begun, turn-refused, turn, walk-turn-refused, walk-turn, Steps}
+use Rattle.model.specs.Runs.{System, Event, begins, turns, walk-turns, Moves, begin-refused, call-begun, walk-begun, turn-refused, turn, walk-turn-refused, walk-turn}
 use Rattle.model.proofs.Accepted.{turn-passed, walk-turn-passed}
 use Rattle.model.proofs.Kept.{Kept}
 use Rattle.model.proofs.FitsAlways.{step-is}

@@ -1,15 +1,12 @@
 -- A new store and a new plain store are an opened pair.
 use Prim.Native.Nat.{ℕ}
-use mathlib.Core.Path.{_≡_, refl, sym, ap, subst, fun-ext, _∙_}
-use mathlib.Core.Bool.{false, cond}
-use Rattle.model.specs.Types.{Running, Idle}
-use Rattle.model.specs.State.{Store, no-trail, newStore}
+use mathlib.Core.Path.{_≡_, sym, ap, subst, fun-ext, _∙_}
+use mathlib.Core.Bool.{cond}
+use Rattle.model.specs.State.{no-trail, newStore}
 use Rattle.model.specs.Checks.{isWalking}
 use Rattle.model.specs.Reach.{Reached}
 use Rattle.model.specs.Setting.{Setting}
-use Rattle.model.specs.Plain.{Plain, NewPlain, Ask}
-use Rattle.model.specs.Runs.{System}
-use Rattle.model.specs.Opened.{New, Opened, Underway}
+use Rattle.model.specs.Opened.{Underway}
 use Rattle.model.specs.Law.{NewIsOpened}
 use Rattle.model.proofs.Fitting.{new-reaches}
 use Rattle.model.proofs.Kept.{new-kept}

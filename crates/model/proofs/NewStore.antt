@@ -1,12 +1,12 @@
 -- A new store is sound.
-use Prim.Native.Nat.{ℕ, _+_, _≤_, _<_}
-use mathlib.Core.Path.{_≡_, refl, sym, ap, _∙_}
+use Prim.Native.Nat.{ℕ, _+_, _≤_}
+use mathlib.Core.Path.{_≡_, refl, sym, _∙_}
 use mathlib.Core.Bool.{true≢false}
 use native.Mathlib.Omega.{arith}
 use Rattle.model.specs.Fun.{sumTo, is}
-use Rattle.model.specs.Types.{Kid, First, Second, Third, Closed, Holding, Idle}
-use Rattle.model.specs.State.{kidAt, noKids, Store, newStore}
-use Rattle.model.specs.Inv.{none, reliance, trayNode, occ, carry, inSlots, inBoxes, inTrays, carried, inKids, Good, Inv}
+use Rattle.model.specs.Types.{Kid, First, Second, Third, Closed, Idle}
+use Rattle.model.specs.State.{kidAt, noKids, newStore}
+use Rattle.model.specs.Inv.{none, trayNode, occ, carry, inSlots, inBoxes, inTrays, carried, inKids, Good, Inv}
 use Rattle.model.specs.Sound.{Sound}
 use Rattle.model.proofs.Sums.{is-other}
 use Rattle.model.proofs.Make.{carry-is}

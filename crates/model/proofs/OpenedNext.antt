@@ -1,21 +1,13 @@
 -- What follows from a store and a plain store that are opened, and when they are so again after a Begin or Turn.
 use Prim.Native.Nat.{ℕ, _≤_}
 use mathlib.Core.Path.{_≡_, refl, sym, _∙_, ap, subst}
-use mathlib.Core.Logic.{_≢_}
-use mathlib.Core.Bool.{Bool, true, false, cond}
-use mathlib.Core.List.{List, [], _∷_, _++_}
-use Rattle.std.specs.declared.option.Option.{Option}
-use Rattle.std.specs.declared.option.Option.the-variants.{Some, None}
-use Rattle.refusals.specs.declared.Refusal.{Refusal}
-use Rattle.refusals.specs.declared.Refusal.the-variants.{NoSuchParty, ShortList, Busy, NothingToTurn}
-use lib.Dec.{ltb}
-use mathlib.Core.Bool.{not, _||_}
-use Rattle.model.specs.Types.{Place, Plan, Makes, Works, Make, Asked, AsksCall, Running, Outcome, Refused, Ended}
-use Rattle.model.specs.Steps.{between}
-use Rattle.model.specs.Checks.{Lengths, firstFault, beginFault, isIdle, isWalking, givenBy, turnFault, walkTurnFault}
+use mathlib.Core.Bool.{true, false}
+use mathlib.Core.List.{List, _++_}
+use Rattle.model.specs.Types.{Place, Plan, Makes, Works, Make, Asked, AsksCall, Outcome}
+use Rattle.model.specs.Checks.{beginFault, givenBy}
 use Rattle.model.specs.Setting.{Setting}
 use Rattle.model.specs.Plain.{Plain, Ask, Happens, enters, goes-up, leaves, reads, goes-down, no-kid-there, keeps, drops, hands, inbox-full, fetches, inbox-empty, makes, sweeps-nothing, sweeps, walks, Takes, accepted, PlainRun, ends, next}
-use Rattle.model.specs.Runs.{System, Event, Moves, endsCall, isEnd}
+use Rattle.model.specs.Runs.{System, Event, Moves, isEnd}
 use Rattle.model.specs.Opened.{Agrees, WrittenSoFar, AskedFor, Underway, Opened}
 use Rattle.model.proofs.Begins.{make-passed, accepted as passed}
 use Rattle.model.proofs.Fitting.{Fits, fits-moves}

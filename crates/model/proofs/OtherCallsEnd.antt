@@ -1,29 +1,25 @@
 -- A call that is neither Make nor walk, along a run: each turn of its own leaves fewer to it, and nobody else's changes it.
 use Prim.Native.Nat.{ℕ, _+_, _≤_, _<_}
 use mathlib.Core.Path.{_≡_, refl, sym, ap, subst, _∙_}
-use mathlib.Core.Bool.{Bool, true, false, cond, _&&_, _||_, not}
+use mathlib.Core.Bool.{Bool, true, false, cond, _&&_}
 use mathlib.Core.Logic.{_⊎_, inl, inr, _≢_}
-use mathlib.Core.List.{List, [], _∷_}
+use mathlib.Core.List.{List, _∷_}
 use native.Mathlib.Omega.{arith}
-use lib.Dec.{eqb, ltb}
+use lib.Dec.{eqb}
 use Rattle.std.proofs.shelf.Tests.{cases-eq, cond-both, eq-eqb, ne-eqb, true≢false}
-use Rattle.std.specs.declared.option.Option.{Option}
-use Rattle.std.specs.declared.option.Option.the-variants.{Some, None}
-use Rattle.refusals.specs.declared.Refusal.{Refusal}
-use Rattle.refusals.specs.declared.Refusal.the-variants.{NoSuchParty, ShortList, Busy, NothingToTurn}
-use Rattle.model.specs.Types.{Running, Idle, Reads, GoesDown, Keeps, Drops, Hands, Fetches, TakesOut, Works, WalkReads, WalkGoesDown, Makes, Sweeps, ReadNothing, ReadData, ReadFirst, ReadSecond, AsksCall, AsksWalk, Outcome, Told, Tells, Settles, Decision}
-use Rattle.model.specs.State.{Store, last}
-use Rattle.model.specs.Steps.{between, loaded, looksAt, decision}
-use Rattle.model.specs.Checks.{Lengths, firstFault, isIdle, isWalking, turnFault, walkTurnFault}
+use Rattle.model.specs.Types.{Running, Idle, Reads, GoesDown, Keeps, Drops, Hands, Fetches, TakesOut, Works, WalkReads, WalkGoesDown, AsksCall, AsksWalk, Outcome, Told, Tells, Settles, Decision}
+use Rattle.model.specs.State.{last}
+use Rattle.model.specs.Steps.{loaded, looksAt, decision}
+use Rattle.model.specs.Checks.{isWalking}
 use Rattle.model.specs.Setting.{Setting}
-use Rattle.model.specs.Runs.{System, Event, begins, turns, walk-turns, Moves, begin-refused, call-begun, walk-begun, turn-refused, turn, walk-turn-refused, walk-turn, Steps, Log, Run, still, more, moved, movedAs, endsCall, isAccepted, isEnd, isTurnOf, turnsOf, endsOf}
+use Rattle.model.specs.Runs.{System, Event, turns, Moves, begin-refused, call-begun, walk-begun, turn-refused, turn, walk-turn-refused, walk-turn, Steps, Log, Run, still, more, movedAs, isAccepted, isEnd, isTurnOf, turnsOf, endsOf}
 use Rattle.model.specs.Law.{isBrief, OtherCallsEnd}
-use Rattle.model.proofs.Accepted.{turn-passed, walk-turn-walks}
+use Rattle.model.proofs.Accepted.{walk-turn-walks}
 use Rattle.model.proofs.Begins.{accepted-idle}
 use Rattle.model.proofs.RefusedTurns.{turn-refusal, walk-turn-refusal}
-use Rattle.model.proofs.BriefCalls.{left, EndsBy, Nearer, nearer, some-left}
+use Rattle.model.proofs.BriefCalls.{left, EndsBy, nearer, some-left}
 use Rattle.model.proofs.Kept.{Kept, moves-keep}
-use Rattle.model.proofs.Others.{partyOf, stepped-own, others-run-on}
+use Rattle.model.proofs.Others.{stepped-own, others-run-on}
 use Rattle.model.proofs.Stepped.{fit-of}
 use Rattle.model.proofs.Tells.{TellsAtOnce, IsFourth, tells-at-once}
 

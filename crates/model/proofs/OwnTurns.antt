@@ -1,8 +1,8 @@
 -- A turn of a call that is no walk: the call goes on, and the plain store stays as it is; or it ends, and the plain store does it.
 use Prim.Native.Nat.{ℕ, _+_, _-_, _≤_}
 use mathlib.Core.Path.{_≡_, refl, sym, _∙_, ap, subst}
-use mathlib.Core.Logic.{_⊎_, inl, inr, _≢_}
-use mathlib.Core.Bool.{Bool, true, false, cond, true≢false}
+use mathlib.Core.Logic.{inl, inr}
+use mathlib.Core.Bool.{Bool, false, cond, true≢false}
 use native.Mathlib.Omega.{arith}
 use lib.Dec.{eqb}
 use Rattle.std.proofs.shelf.Tests.{cases-eq, eqb-true, cond-false}
@@ -12,7 +12,6 @@ use Rattle.model.specs.Types.{Place, Job, Makes, Sweeps, ReadNothing, ReadData
 use Rattle.model.specs.State.{kidAt, no-trail, Store, setInbox, setSlot, setRun, last}
 use Rattle.model.specs.Checks.{isIdle, isWalking}
 use Rattle.model.specs.Begins.{kidOf}
-use Rattle.model.specs.Reach.{Reached}
 use Rattle.model.specs.Inv.{Good}
 use Rattle.model.specs.Sound.{onTrail, Sound}
 use Rattle.model.specs.Setting.{Setting}

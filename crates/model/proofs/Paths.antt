@@ -1,14 +1,12 @@
 -- Paths along kids: their nodes are different, and at most M.
-use Prim.Native.Nat.{ℕ, zero, suc, _+_, _*_, _≤_, _<_}
+use Prim.Native.Nat.{ℕ, zero, suc, _+_, _≤_, _<_}
 use mathlib.Core.Path.{_≡_, refl, sym, _∙_, ap, subst}
-use mathlib.Core.Logic.{_⊎_, inl, inr, _≢_}
+use mathlib.Core.Logic.{inl, inr, _≢_}
 use mathlib.Core.List.{List, [], _∷_}
 use native.Mathlib.Omega.{arith}
 use lib.ListN.{length}
-use Rattle.std.proofs.shelf.Tests.{cases-eq}
-use Rattle.model.specs.Fun.{upd, sumTo, is}
+use Rattle.model.specs.Fun.{upd, sumTo}
 use Rattle.model.specs.Types.{Kids}
-use Rattle.model.specs.State.{along}
 use Rattle.model.specs.Reach.{Below, kid, deeper, InTerm, IsKid, Chain}
 use Rattle.model.specs.Sound.{Ranked}
 use Rattle.model.proofs.Sums.{upd-same, upd-other, sumTo-one}

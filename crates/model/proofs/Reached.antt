@@ -1,7 +1,7 @@
 -- Reached nodes have references, and are nobody's to change; heights; some node is free if one is out of reach.
-use Prim.Native.Nat.{ℕ, zero, suc, _+_, _-_, _≤_, _<_}
-use mathlib.Core.Path.{_≡_, refl, sym, _∙_, ap, subst}
-use mathlib.Core.Logic.{_⊎_, inl, inr, _≢_}
+use Prim.Native.Nat.{ℕ, zero, suc, _+_, _≤_, _<_}
+use mathlib.Core.Path.{_≡_, sym, _∙_, ap, subst}
+use mathlib.Core.Logic.{inl, inr, _≢_}
 use native.Mathlib.Omega.{arith}
 use Rattle.std.proofs.shelf.Tests.{cases-eq, cases-lt}
 use Rattle.model.specs.Fun.{upd, sumTo, is}
@@ -10,7 +10,6 @@ use Rattle.model.specs.State.{position, kidAt, putKid, Store}
 use Rattle.model.specs.Reach.{Reach, by-slot, by-box, by-kid, Reached, Free, Below, kid, deeper, Acyclic}
 use Rattle.model.specs.Inv.{none, reliance, trayNode, occ, carry, inSlots, inBoxes, inTrays, carried, inKids, Inv}
 use Rattle.model.specs.Sound.{Ranked}
-use Rattle.model.proofs.Explicit.{gives}
 use Rattle.model.proofs.Sums.{upd-same, upd-other, is-other, is-cases, sumTo-at, sumTo-some}
 use Rattle.model.proofs.Refs.{carried-at, carry-one, slots-at, boxes-at, kids-at}
 use Rattle.model.proofs.Make.{position-same, put-same, put-other, carry-is}

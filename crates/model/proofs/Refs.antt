@@ -1,9 +1,7 @@
 -- How the number of references to a node moves when one word changes.
-use Prim.Native.Nat.{ℕ, zero, suc, _+_, _-_, _≤_, _<_}
-use mathlib.Core.Path.{_≡_, refl, sym, _∙_, ap, subst}
-use mathlib.Core.Logic.{_⊎_, inl, inr, _≢_}
+use Prim.Native.Nat.{ℕ, _+_, _≤_}
+use mathlib.Core.Path.{_≡_, ap}
 use native.Mathlib.Omega.{arith}
-use Rattle.std.proofs.shelf.Tests.{cases-eq}
 use Rattle.model.specs.Fun.{upd, sumTo, is}
 use Rattle.model.specs.Types.{Kid, First, Second, Third, Kids, Tray, Running}
 use Rattle.model.specs.State.{kidAt, putKid}

@@ -1,8 +1,8 @@
 -- The plain store follows every Begin and every Turn, so every run.
 use Prim.Native.Nat.{ℕ}
-use mathlib.Core.Path.{_≡_, refl, sym, subst}
+use mathlib.Core.Path.{_≡_, sym, subst}
 use mathlib.Core.Bool.{false, cond}
-use mathlib.Core.List.{List, [], _∷_}
+use mathlib.Core.List.{[], _∷_}
 use Rattle.refusals.specs.declared.Refusal.{Refusal}
 use Rattle.model.specs.Types.{Outcome, Refused}
 use Rattle.model.specs.Setting.{Setting}

@@ -1,19 +1,17 @@
 -- The run in which a Sweep takes sixteen turns, Begin by Begin and Turn by Turn.
-use Prim.Native.Nat.{ℕ, _-_, _≤_, _<_}
-use mathlib.Core.Path.{_≡_, refl, sym}
+use Prim.Native.Nat.{ℕ, _-_, _≤_}
+use mathlib.Core.Path.{refl, sym}
 use mathlib.Core.Bool.{true, false}
 use mathlib.Core.List.{[], _∷_}
 use native.Mathlib.Omega.{arith}
 use Rattle.std.proofs.shelf.Tests.{true≢false}
-use Rattle.orders.specs.Limits.{IsParty}
-use Rattle.orders.specs.Meaning.{IsNumber, Picked}
+use Rattle.orders.specs.Meaning.{IsNumber}
 use Rattle.model.specs.Fun.{upd}
-use Rattle.model.specs.Types.{Kid, First, Second, Third, Closed, Open, Holding, OpenTray, ReadTray, LookForNode, LockNode, Recheck, UnlockAndGoBack, ReadKid, ClearKid, UncountKid, Claim, Unlock, Offer, KeepForOneself, GiveBack, CloseTray, WriteData, CountKid, LinkKid, Plan, Makes, Sweeps, Idle, Drops, Works, Drop, Make, Sweep, AsksCall, AtNode, Begun, StillRunning, Ended}
-use Rattle.model.specs.State.{Store, newStore, setCount, setLock, setKid, setTray, setSlot, setRun}
+use Rattle.model.specs.Types.{First, Second, Third, Closed, Open, Holding, OpenTray, ReadTray, LookForNode, LockNode, Recheck, ReadKid, ClearKid, UncountKid, Claim, Unlock, Offer, GiveBack, CloseTray, WriteData, CountKid, LinkKid, Plan, Makes, Sweeps, Idle, Drops, Works, Drop, Make, Sweep, AsksCall, AtNode, Begun, StillRunning, Ended}
+use Rattle.model.specs.State.{newStore, setCount, setLock, setKid, setTray, setSlot, setRun}
 use Rattle.model.specs.Checks.{Lengths}
-use Rattle.model.specs.Walks.{Notes}
 use Rattle.model.specs.Setting.{Meaning}
-use Rattle.model.specs.Runs.{System, begins, turns, Moves, call-begun, turn, Asks, Run, still, more}
+use Rattle.model.specs.Runs.{System, begins, turns, Moves, call-begun, turn, Asks, still, more}
 use Rattle.model.specs.Existing.{CanExist, new, moved}
 use Rattle.model.specs.Sixteen.{small, SixteenIsReached}
 use Rattle.model.proofs.Sums.{upd-same, upd-other}

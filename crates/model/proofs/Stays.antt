@@ -1,19 +1,19 @@
 -- What a step of a call that is no Down and no walk leaves as it is.
-use Prim.Native.Nat.{ℕ, zero, suc, _+_, _-_, _≤_, _<_}
+use Prim.Native.Nat.{ℕ, _+_, _-_, _≤_}
 use mathlib.Core.Path.{_≡_, refl, sym, _∙_, ap, subst}
 use mathlib.Core.Logic.{_⊎_, inl, inr, _≢_}
-use mathlib.Core.Bool.{Bool, true, false, cond, true≢false}
+use mathlib.Core.Bool.{true, false, cond, true≢false}
 use native.Mathlib.Omega.{arith}
 use lib.Dec.{eqb}
-use Rattle.std.proofs.shelf.Tests.{cases-eq, cases-lt, cond-both, eqb-true, eqb-false}
+use Rattle.std.proofs.shelf.Tests.{cases-eq, cases-lt, cond-both}
 use Rattle.model.specs.Fun.{upd, is}
-use Rattle.model.specs.Types.{Kid, First, Second, Third, Tray, Closed, Open, Holding, Place, OpenTray, ReadTray, LookForNode, LockNode, Recheck, UnlockAndGoBack, ReadKid, ClearKid, UncountKid, Claim, Unlock, Offer, KeepForOneself, GiveBack, CloseTray, WriteData, CountKid, LinkKid, Plan, Job, Makes, Sweeps, ReadNothing, ReadData, ReadFirst, ReadSecond, Running, Idle, Reads, GoesDown, Keeps, Drops, Hands, Fetches, TakesOut, Works, WalkReads, WalkGoesDown, Down, Make}
+use Rattle.model.specs.Types.{Kid, First, Second, Third, Tray, Closed, Open, Holding, Place, OpenTray, ReadTray, LookForNode, LockNode, Recheck, UnlockAndGoBack, ReadKid, ClearKid, UncountKid, Claim, Unlock, Offer, KeepForOneself, GiveBack, CloseTray, WriteData, CountKid, LinkKid, Plan, Job, Makes, Sweeps, ReadNothing, ReadData, ReadFirst, ReadSecond, Running, Idle, Reads, GoesDown, Keeps, Drops, Hands, Fetches, TakesOut, Works, WalkReads, WalkGoesDown}
 use Rattle.model.specs.State.{kidAt, putKid, Store, setCount, setLock, setKid, setInbox, setTray, setSlot, setRun, last}
 use Rattle.model.specs.Steps.{afterKid}
-use Rattle.model.specs.Reach.{Reached, kid}
+use Rattle.model.specs.Reach.{Reached}
 use Rattle.model.specs.Inv.{relianceAt, reliance, needsJob, needsOf, carry, Good, Inv}
 use Rattle.model.specs.Sound.{Ranked, Outside, Into, onTrail}
-use Rattle.model.proofs.Explicit.{isOpen, back, made, give-first, give-second, give-third, give-after, at-ReadTray, own-tray, gives, placeStep, turnAt}
+use Rattle.model.proofs.Explicit.{isOpen, back, made, give-first, give-second, give-third, give-after, at-ReadTray, own-tray, placeStep, turnAt}
 use Rattle.model.proofs.Sums.{upd-same, upd-other, is-same}
 use Rattle.model.proofs.Refs.{carried-at, kids-at}
 use Rattle.model.proofs.Make.{good, carry-is}

@@ -1,5 +1,4 @@
 -- The law of the shared store: its parts put together at the end of any run from an opened pair.
-use Prim.Native.Nat.{ℕ}
 use Rattle.model.specs.Setting.{Setting}
 use Rattle.model.specs.Law.{FromOpened, StoreLaw}
 use Rattle.model.proofs.Resting.{free-when-lost}

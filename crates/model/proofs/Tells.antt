@@ -3,9 +3,9 @@ use Prim.Native.Nat.{ℕ}
 use mathlib.Core.Bool.{cond}
 use lib.Dec.{eqb}
 use Rattle.std.proofs.shelf.Tests.{cond-both}
-use Rattle.model.specs.Types.{Kid, First, Second, Third, Kids, Tray, Closed, Open, Holding, Place, OpenTray, ReadTray, LookForNode, LockNode, Recheck, UnlockAndGoBack, ReadKid, ClearKid, UncountKid, Claim, Unlock, Offer, KeepForOneself, GiveBack, CloseTray, WriteData, CountKid, LinkKid, Plan, Job, Makes, Sweeps, Reading, ReadNothing, ReadData, ReadFirst, ReadSecond, Running, Idle, Reads, GoesDown, Keeps, Drops, Hands, Fetches, TakesOut, Works, WalkReads, WalkGoesDown, AtNode, Refused, StillRunning, Word, NoWord, CountWord, LockWord, KidWord, DataWord, InboxWord, TrayWord, Stays, Fills, Lengthens, Told, Tells, Settles, Decision}
+use Rattle.model.specs.Types.{Kid, First, Second, Third, Tray, Closed, Open, Holding, Place, OpenTray, ReadTray, LookForNode, LockNode, Recheck, UnlockAndGoBack, ReadKid, ClearKid, UncountKid, Claim, Unlock, Offer, KeepForOneself, GiveBack, CloseTray, WriteData, CountKid, LinkKid, Plan, Job, Makes, Sweeps, ReadNothing, ReadData, ReadFirst, ReadSecond, Running, Idle, Reads, GoesDown, Keeps, Drops, Hands, Fetches, TakesOut, Works, WalkReads, WalkGoesDown, AtNode, Refused, StillRunning, Word, NoWord, CountWord, LockWord, KidWord, DataWord, InboxWord, TrayWord, Fills, Lengthens, Told, Tells, Settles, Decision}
 use Rattle.refusals.specs.declared.Refusal.the-variants.{NoKid, InboxFull, InboxEmpty}
-use Rattle.model.specs.Steps.{onCount, onLock, onKid, onData, onInbox, onTray, going, ending, ended-by, stuck, backward, afterKid, intoTray, intoOwnTray, notTaken, offered, letGo, offeredToOneself, made, fromThird, fromSecond, fromFirst, onward, dataGiven, kidLinked, kidWanted, decidePlace, decide}
+use Rattle.model.specs.Steps.{onCount, onLock, onKid, onData, onInbox, onTray, going, ending, ended-by, stuck, backward, afterKid, intoOwnTray, notTaken, offered, letGo, offeredToOneself, made, fromThird, fromSecond, fromFirst, onward, dataGiven, kidLinked, decidePlace, decide}
 
 abbrev pub TellsAtOnce : {D W : Type 0} → Told D W → Type 0
 TellsAtOnce (Tells o) = Unit {0}

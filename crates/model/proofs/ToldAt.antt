@@ -3,12 +3,12 @@ use Prim.Native.Nat.{ℕ, _≤_}
 use mathlib.Core.Path.{_≡_, refl, sym, _∙_, ap, subst}
 use mathlib.Core.Bool.{Bool, true, false, cond, true≢false}
 use lib.Dec.{eqb}
-use Rattle.std.proofs.shelf.Tests.{cond-both, cond-true}
+use Rattle.std.proofs.shelf.Tests.{cond-both}
 use Rattle.refusals.specs.declared.Refusal.the-variants.{NoKid, InboxFull, InboxEmpty}
-use Rattle.model.specs.Types.{Kid, First, Second, Third, Tray, Closed, Open, Holding, Place, OpenTray, ReadTray, LookForNode, LockNode, Recheck, UnlockAndGoBack, ReadKid, ClearKid, UncountKid, Claim, Unlock, Offer, KeepForOneself, GiveBack, CloseTray, WriteData, CountKid, LinkKid, Plan, Job, Makes, Sweeps, Reading, ReadNothing, ReadData, ReadFirst, ReadSecond, Running, Idle, Reads, GoesDown, Keeps, Drops, Hands, Fetches, TakesOut, Works, WalkReads, WalkGoesDown, AtNode, Contents, Swept, Outcome, Refused, StillRunning, Ended, Address, Nowhere, CountOf, TrayOf, Word, NoWord, LockWord, InboxWord, TrayWord, Stays, Fills, Lengthens, Tells, Decision}
+use Rattle.model.specs.Types.{Kid, First, Second, Third, Tray, Closed, Open, Holding, Place, OpenTray, ReadTray, LookForNode, LockNode, Recheck, UnlockAndGoBack, ReadKid, ClearKid, UncountKid, Claim, Unlock, Offer, KeepForOneself, GiveBack, CloseTray, WriteData, CountKid, LinkKid, Plan, Job, Makes, Sweeps, ReadNothing, ReadData, ReadFirst, ReadSecond, Running, Idle, Reads, GoesDown, Keeps, Drops, Hands, Fetches, TakesOut, Works, WalkReads, WalkGoesDown, AtNode, Contents, Swept, Outcome, Refused, StillRunning, Ended, Address, Nowhere, CountOf, TrayOf, Word, NoWord, LockWord, InboxWord, TrayWord, Fills, Lengthens, Tells, Decision}
 use Rattle.model.specs.State.{kidAt, Store, last}
 use Rattle.model.specs.Checks.{isIdle, isWalking}
-use Rattle.model.specs.Steps.{between, ownAddress, address, loaded, afterKid, going, ending, ended-by, backward, intoTray, made, notTaken, offered, offeredToOneself, onTray, fromThird, fromSecond, fromFirst, onward, decidePlace, decide, decision}
+use Rattle.model.specs.Steps.{ownAddress, address, loaded, afterKid, going, ending, ended-by, backward, intoTray, made, notTaken, offered, offeredToOneself, onTray, fromThird, fromSecond, fromFirst, onward, decidePlace, decide, decision}
 use Rattle.model.specs.Inv.{FitJob, Fit}
 use Rattle.model.proofs.Explicit.{isOpen}
 use Rattle.model.proofs.Stepped.{PickedAt, Picked, is-within}

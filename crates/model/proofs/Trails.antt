@@ -1,26 +1,25 @@
 -- A trail stays a path from the node of its slot along kids; so every turn of a call keeps the store sound.
-use Prim.Native.Nat.{ℕ, _+_, _-_, _≤_, _<_}
+use Prim.Native.Nat.{ℕ, _≤_}
 use mathlib.Core.Path.{_≡_, refl, sym, _∙_, ap, subst}
-use mathlib.Core.Logic.{_⊎_, inl, inr, _≢_}
-use mathlib.Core.Bool.{Bool, true, false, cond, true≢false}
+use mathlib.Core.Logic.{inl, inr, _≢_}
+use mathlib.Core.Bool.{true, false, true≢false}
 use mathlib.Core.List.{List, [], _∷_}
 use native.Mathlib.Omega.{arith}
-use lib.ListN.{length}
 use lib.Dec.{eqb}
 use Rattle.std.proofs.shelf.Tests.{cases-eq, cond-both, eqb-false}
-use Rattle.model.specs.Types.{Kid, Kids, Closed, Place, OpenTray, LookForNode, Offer, Plan, Job, Makes, Sweeps, Reading, ReadNothing, ReadData, ReadFirst, ReadSecond, Running, Idle, Reads, GoesDown, Keeps, Drops, Hands, Fetches, TakesOut, Works, WalkReads, WalkGoesDown}
+use Rattle.model.specs.Types.{Kid, Kids, Closed, OpenTray, LookForNode, Offer, Job, Makes, Sweeps, ReadNothing, ReadData, ReadFirst, ReadSecond, Running, Idle, Reads, GoesDown, Keeps, Drops, Hands, Fetches, TakesOut, Works, WalkReads, WalkGoesDown}
 use Rattle.model.specs.State.{kidAt, Trail, no-trail, along, lastOf, longer, shorter, Store, setTrail, setRun, last}
-use Rattle.model.specs.Checks.{lastSlot, isNone}
-use Rattle.model.specs.Reach.{Reached, by-slot, by-kid, Below, kid, deeper, InTerm, IsKid, Chain}
+use Rattle.model.specs.Checks.{isNone}
+use Rattle.model.specs.Reach.{Reached, by-slot, by-kid, Below, kid, deeper, InTerm, Chain}
 use Rattle.model.specs.Inv.{none, reliance, needsOf, trayNode, Good, Inv}
-use Rattle.model.specs.Sound.{Ranked, Into, onTrail, opens, TrailAt, Sound}
+use Rattle.model.specs.Sound.{Into, onTrail, opens, TrailAt, Sound}
 use Rattle.model.specs.Existing.{trailLength}
 use Rattle.model.proofs.Explicit.{turnAt, down-to}
 use Rattle.model.proofs.Sums.{upd-same}
 use Rattle.model.proofs.Frames.{upd-all}
 use Rattle.model.proofs.Fill.{no-needs}
 use Rattle.model.proofs.Reached.{reached-held}
-use Rattle.model.proofs.Turn.{Given, Writes, w-job, w-keep, w-drop, w-fetch, w-hand, w-fill, keeps-at, at-rest}
+use Rattle.model.proofs.Turn.{Given, w-job, w-keep, w-drop, w-fetch, w-hand, w-fill, keeps-at, at-rest}
 use Rattle.model.proofs.Paths.{chain-short}
 use Rattle.model.proofs.Stays.{Stands, Frame, turn-frame}
 use Rattle.model.proofs.Trays.{Shuts, turn-shuts}

@@ -1,15 +1,14 @@
 -- A tray is closed unless its party is in a Make between ReadTray and CloseTray.
-use Prim.Native.Nat.{ℕ, zero, suc, _+_, _-_, _≤_, _<_}
-use mathlib.Core.Path.{_≡_, refl, sym, _∙_, ap, subst}
-use mathlib.Core.Logic.{_⊎_, inl, inr, _≢_}
-use mathlib.Core.Bool.{Bool, true, false, cond, true≢false}
-use native.Mathlib.Omega.{arith}
+use Prim.Native.Nat.{ℕ, _+_, _-_, _≤_}
+use mathlib.Core.Path.{_≡_, refl, sym, _∙_, ap}
+use mathlib.Core.Logic.{_≢_}
+use mathlib.Core.Bool.{true, false, cond, true≢false}
 use lib.Dec.{eqb}
-use Rattle.std.proofs.shelf.Tests.{cases-eq, cond-both, eqb-true, eqb-false}
-use Rattle.model.specs.Fun.{upd, is}
-use Rattle.model.specs.Types.{Kid, First, Second, Third, Tray, Closed, Open, Holding, Place, OpenTray, ReadTray, LookForNode, LockNode, Recheck, UnlockAndGoBack, ReadKid, ClearKid, UncountKid, Claim, Unlock, Offer, KeepForOneself, GiveBack, CloseTray, WriteData, CountKid, LinkKid, Plan, Job, Makes, Sweeps, ReadNothing, ReadData, ReadFirst, ReadSecond, Running, Idle, Reads, GoesDown, Keeps, Drops, Hands, Fetches, TakesOut, Works, WalkReads, WalkGoesDown, Make}
+use Rattle.std.proofs.shelf.Tests.{cond-both, eqb-false}
+use Rattle.model.specs.Fun.{upd}
+use Rattle.model.specs.Types.{Kid, First, Second, Third, Tray, Closed, Open, Holding, Place, OpenTray, ReadTray, LookForNode, LockNode, Recheck, UnlockAndGoBack, ReadKid, ClearKid, UncountKid, Claim, Unlock, Offer, KeepForOneself, GiveBack, CloseTray, WriteData, CountKid, LinkKid, Plan, Job, Makes, Sweeps, ReadNothing, ReadData, ReadFirst, ReadSecond, Running, Idle, Reads, GoesDown, Keeps, Drops, Hands, Fetches, TakesOut, Works, WalkReads, WalkGoesDown}
 use Rattle.model.specs.State.{kidAt, Store, setCount, setLock, setKid, setInbox, setTray, setSlot, setRun, last}
-use Rattle.model.specs.Steps.{afterKid, between}
+use Rattle.model.specs.Steps.{afterKid}
 use Rattle.model.specs.Inv.{Inv}
 use Rattle.model.specs.Sound.{opens, opensAt}
 use Rattle.model.proofs.Explicit.{isOpen, back, made, give-first, give-second, give-third, give-after, at-ReadTray, own-tray, placeStep, turnAt}

@@ -2,19 +2,14 @@
 use Prim.Native.Nat.{ℕ, _≤_}
 use mathlib.Core.Path.{_≡_, refl, sym, _∙_, ap, subst}
 use mathlib.Core.Logic.{_⊎_, inl, inr}
-use mathlib.Core.Bool.{Bool, true, false, not, _||_}
-use mathlib.Core.List.{List, [], _∷_}
-use native.Mathlib.Omega.{arith}
-use lib.Dec.{eqb, ltb}
-use Rattle.std.specs.declared.option.Option.the-variants.{Some}
-use Rattle.refusals.specs.declared.Refusal.{Refusal}
-use Rattle.refusals.specs.declared.Refusal.the-variants.{NoSuchParty, ShortList, Busy, NothingToTurn}
+use mathlib.Core.Bool.{Bool, true, false}
+use lib.Dec.{eqb}
 use Rattle.model.specs.Types.{Place, OpenTray, ReadTray, LookForNode, LockNode, Recheck, UnlockAndGoBack, ReadKid, ClearKid, UncountKid, Claim, Unlock, Offer, KeepForOneself, GiveBack, CloseTray, WriteData, CountKid, LinkKid, Plan, Job, Makes, Running, Idle, Reads, GoesDown, Keeps, Drops, Hands, Fetches, TakesOut, Works, WalkReads, WalkGoesDown, Outcome, StillRunning, Ended, Told, Tells, Settles, Decision}
 use Rattle.model.specs.State.{Store, last}
-use Rattle.model.specs.Steps.{between, decision, stepped, loaded, looksAt, written, changed}
-use Rattle.model.specs.Checks.{Lengths, firstFault, turnFault, walkTurnFault, isIdle, isWalking}
+use Rattle.model.specs.Steps.{decision, stepped, loaded, looksAt, written, changed}
+use Rattle.model.specs.Checks.{isIdle}
 use Rattle.model.specs.Setting.{Meaning, Setting}
-use Rattle.model.specs.Runs.{System, asksNodes, asksParties, Asks, movedAs, Steps, endsCall, isEnd}
+use Rattle.model.specs.Runs.{System, asksNodes, asksParties, Asks, movedAs, Steps, isEnd}
 use Rattle.model.proofs.Explicit.{placeStep, turnAt}
 use Rattle.model.proofs.Sums.{upd-same}
 use Rattle.model.proofs.Tells.{TellsAtOnce, IsFourth, tells-at-once}

@@ -1,34 +1,25 @@
 -- The plain store follows every Turn.
 use Prim.Native.Nat.{ℕ, _≤_}
 use mathlib.Core.Path.{_≡_, refl, sym, _∙_, ap, subst}
-use mathlib.Core.Logic.{_⊎_, inl, inr, _≢_}
-use mathlib.Core.Bool.{Bool, true, false, cond, not, _||_, true≢false}
-use mathlib.Core.List.{List, [], _∷_}
-use lib.Dec.{eqb, ltb}
-use Rattle.std.specs.declared.option.Option.{Option}
+use mathlib.Core.Logic.{inl, inr, _≢_}
+use mathlib.Core.Bool.{Bool, true, false, cond, true≢false}
+use mathlib.Core.List.{[], _∷_}
+use lib.Dec.{eqb}
 use Rattle.std.specs.declared.option.Option.the-variants.{Some, None}
-use Rattle.std.proofs.shelf.Tests.{cases-eq, cond-true, cond-false, cond-both, not-false}
-use Rattle.refusals.specs.declared.Refusal.{Refusal}
-use Rattle.refusals.specs.declared.Refusal.the-variants.{NoSuchParty, ShortList, Busy, NothingToTurn}
-use Rattle.kinds.specs.Situations.{Describes}
-use Rattle.model.specs.Fun.{upd}
-use Rattle.model.specs.Types.{Kids, ReadNothing, ReadData, ReadFirst, ReadSecond, Running, Idle, Reads, GoesDown, Keeps, Drops, Hands, Fetches, TakesOut, Works, WalkReads, WalkGoesDown, Walk, Asked, AsksWalk, WorthIs, Outcome, Refused, StillRunning, Ended, Told, Tells, Settles, Decision, Situation}
-use Rattle.model.specs.State.{kidAt, no-trail, longer, shorter, Store, setTrail, setRun, last}
-use Rattle.model.specs.Steps.{between, decision, stepped, dataAfter}
+use Rattle.std.proofs.shelf.Tests.{cases-eq, cond-true, cond-both}
+use Rattle.model.specs.Types.{Kids, ReadNothing, Running, Idle, Reads, GoesDown, Keeps, Drops, Hands, Fetches, TakesOut, Works, WalkReads, WalkGoesDown, AsksWalk, Outcome, Told, Tells, Settles, Decision, Situation}
+use Rattle.model.specs.State.{kidAt, no-trail, longer, Store, setTrail, setRun, last}
+use Rattle.model.specs.Steps.{decision, dataAfter}
 use Rattle.model.specs.Checks.{Lengths, isIdle, isWalking, turnFault, walkTurnFault}
 use Rattle.model.specs.Walks.{Notes, firstUnmarked, goneUp, settledStore}
 use Rattle.model.specs.Setting.{Setting}
-use Rattle.model.specs.Plain.{Plain, Ask, Happens, walks, WorksOut, TermHas, PlainRun, ends as none-left, next}
+use Rattle.model.specs.Plain.{Plain, Ask, PlainRun, ends as none-left, next}
 use Rattle.model.specs.Runs.{System, Event, turns, walk-turns, movedAs, moved, Steps, Moves, turn, walk-turn, isEnd}
-use Rattle.model.specs.Opened.{Agrees, ReadSoFar, AskedFor, WalkSoFar, Underway, Opened}
-use Rattle.model.proofs.Explicit.{down-to, turnAt}
-use Rattle.model.proofs.Sums.{upd-same}
-use Rattle.model.proofs.Begins.{passes}
-use Rattle.model.proofs.Accepted.{turn-passed, walk-turn-passed}
+use Rattle.model.specs.Opened.{Agrees, Underway, Opened}
+use Rattle.model.proofs.Explicit.{turnAt}
 use Rattle.model.proofs.Stepped.{fit-of}
 use Rattle.model.proofs.Fitting.{StepIs, dataAt, data-after}
 use Rattle.model.proofs.FitsAlways.{picked, step-is}
-use Rattle.model.proofs.Kept.{Kept}
 use Rattle.model.proofs.ToldAt.{toldAt, told-is}
 use Rattle.model.proofs.Follow.{shown, having, agrees-on}
 use Rattle.model.proofs.OwnTurns.{Own, goes, ends, own-turn, own-along}

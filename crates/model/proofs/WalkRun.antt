@@ -2,20 +2,17 @@
 use Prim.Native.Nat.{ℕ, suc, _+_, _*_, _≤_, _<_}
 use mathlib.Core.Path.{_≡_, refl, sym, _∙_, ap, subst}
 use mathlib.Core.Logic.{inl, inr, _≢_}
-use mathlib.Core.Bool.{Bool, true, false, cond, _&&_, _||_, not, true≢false}
-use mathlib.Core.List.{List, [], _∷_}
+use mathlib.Core.Bool.{Bool, true, false, cond, _&&_, not, true≢false}
+use mathlib.Core.List.{[], _∷_}
 use native.Mathlib.Omega.{arith}
-use lib.Dec.{eqb, ltb}
-use Rattle.std.specs.declared.option.Option.the-variants.{Some, None}
-use Rattle.std.specs.Options.{isSome}
+use lib.Dec.{eqb}
+use Rattle.std.specs.declared.option.Option.the-variants.{None}
 use Rattle.std.proofs.shelf.Tests.{cases-eq, eq-eqb, ne-eqb, cond-true, cond-false, and-left}
 use Rattle.refusals.specs.declared.Refusal.{Refusal}
-use Rattle.refusals.specs.declared.Refusal.the-variants.{NoSuchParty, ShortList, Busy, NothingToTurn}
 use Rattle.kinds.specs.Situations.{Describes}
-use Rattle.model.specs.Types.{Running, WalkReads, ReadNothing, Walk, AsksCall, AsksWalk, Outcome, Refused, Begun, StillRunning, Ended, WorthIs, Situation}
+use Rattle.model.specs.Types.{WalkReads, ReadNothing, Walk, AsksCall, AsksWalk, Outcome, Refused, Begun, StillRunning, Ended, WorthIs, Situation}
 use Rattle.model.specs.State.{along}
-use Rattle.model.specs.Steps.{between}
-use Rattle.model.specs.Checks.{Lengths, firstFault, isIdle, isWalking, turnFault, walkTurnFault}
+use Rattle.model.specs.Checks.{Lengths, isIdle, isWalking}
 use Rattle.model.specs.Begins.{startedWalk}
 use Rattle.model.specs.Reach.{Reached, by-slot, InTerm}
 use Rattle.model.specs.Sound.{Sound}
@@ -26,7 +23,7 @@ use Rattle.model.specs.Opened.{Agrees, WalkSoFar}
 use Rattle.model.specs.Law.{WalksEnd}
 use Rattle.model.proofs.Sums.{upd-same}
 use Rattle.model.proofs.Trails.{term-reached}
-use Rattle.model.proofs.Begins.{passes, accepted, accepted-idle}
+use Rattle.model.proofs.Begins.{accepted, accepted-idle}
 use Rattle.model.proofs.Accepted.{turn-walks-not}
 use Rattle.model.proofs.RefusedTurns.{turn-refusal, walk-turn-refusal}
 use Rattle.model.proofs.Kept.{Kept, moves-keep}

@@ -9,7 +9,7 @@ use Rattle.refusals.specs.declared.Refusal.{Refusal}
 use Rattle.refusals.specs.declared.Refusal.the-variants.{NoSuchParty, NoSuchSlot, ShortList, DataDoesNotFit, BadSituation, Busy, NothingToTurn, SlotEmpty, SlotFilled, NoTrail, TrailStands}
 use Rattle.kinds.specs.Situations.{inLimits}
 use Rattle.kinds.specs.declared.given.Given.{Given}
-use Rattle.model.specs.Types.{Kids, Plan, Call, Enter, Up, Leave, Read, Down, Keep, Drop, Hand, Fetch, Make, Sweep, Walk, Asked, AsksCall, AsksWalk, Running, Idle, Reads, GoesDown, Keeps, Drops, Hands, Fetches, TakesOut, Works, WalkReads, WalkGoesDown}
+use Rattle.model.specs.Types.{Kids, Call, Enter, Up, Leave, Read, Down, Keep, Drop, Hand, Fetch, Make, Sweep, Walk, Asked, AsksCall, AsksWalk, Running, Idle, Reads, GoesDown, Keeps, Drops, Hands, Fetches, TakesOut, Works, WalkReads, WalkGoesDown}
 use Rattle.model.specs.State.{Trail, no-trail, along}
 use Rattle.model.specs.Steps.{between}
 

@@ -1,7 +1,7 @@
 -- Runs of the shared store: Begins and Turns, each with what it told.
-use Prim.Native.Nat.{ℕ, suc, _+_}
+use Prim.Native.Nat.{ℕ, _+_}
 use mathlib.Core.Path.{_≡_}
-use mathlib.Core.Bool.{Bool, true, false, cond, _&&_, _||_, not}
+use mathlib.Core.Bool.{Bool, true, false, cond, _&&_, not}
 use mathlib.Core.List.{List, [], _∷_, _++_}
 use lib.Dec.{eqb, leb}
 use Rattle.std.specs.declared.option.Option.{Option}
@@ -11,7 +11,7 @@ use Rattle.refusals.specs.declared.Refusal.{Refusal}
 use Rattle.kinds.specs.Situations.{Describes}
 use Rattle.orders.specs.Meaning.{Picked}
 use Rattle.model.specs.Fun.{upd}
-use Rattle.model.specs.Types.{Place, OpenTray, ReadTray, LookForNode, LockNode, Recheck, UnlockAndGoBack, ReadKid, ClearKid, UncountKid, Claim, Unlock, Offer, KeepForOneself, GiveBack, CloseTray, WriteData, CountKid, LinkKid, Running, Idle, Reads, GoesDown, Keeps, Drops, Hands, Fetches, TakesOut, Works, WalkReads, WalkGoesDown, Call, Enter, Up, Leave, Read, Down, Keep, Drop, Hand, Fetch, Make, Sweep, Walk, Asked, AsksCall, AsksWalk, Answer, Done, WorthIs, Outcome, Refused, Begun, StillRunning, Ended, Told, Tells, Settles, Decision, Situation}
+use Rattle.model.specs.Types.{OpenTray, ReadTray, LookForNode, LockNode, Recheck, UnlockAndGoBack, ReadKid, ClearKid, UncountKid, Claim, Unlock, Offer, KeepForOneself, GiveBack, CloseTray, WriteData, CountKid, LinkKid, Running, Idle, Reads, GoesDown, Keeps, Drops, Hands, Fetches, TakesOut, Works, WalkReads, WalkGoesDown, Call, Enter, Up, Leave, Read, Down, Keep, Drop, Hand, Fetch, Make, Sweep, Walk, Asked, AsksCall, AsksWalk, Done, WorthIs, Outcome, Refused, Begun, StillRunning, Ended, Told, Tells, Settles, Decision, Situation}
 use Rattle.model.specs.State.{Store, last}
 use Rattle.model.specs.Steps.{decision, stepped, dataAfter}
 use Rattle.model.specs.Checks.{Lengths, beginFault, turnFault, walkTurnFault, isIdle}

@@ -1,11 +1,11 @@
 -- One step of a running call: it reads one shared word, decides on it, and may write that word. `x` is what the order
 -- picks where a place looks for a node or offers one, and is not looked at elsewhere.
 use Prim.Native.Nat.{ℕ, _+_, _-_}
-use mathlib.Core.Bool.{Bool, true, false, cond, _&&_}
+use mathlib.Core.Bool.{Bool, cond, _&&_}
 use lib.Dec.{eqb, leb}
 use Rattle.refusals.specs.declared.Refusal.the-variants.{NoKid, InboxFull, InboxEmpty}
 use Rattle.model.specs.Fun.{upd}
-use Rattle.model.specs.Types.{Kid, First, Second, Third, Kids, Tray, Closed, Open, Holding, Place, OpenTray, ReadTray, LookForNode, LockNode, Recheck, UnlockAndGoBack, ReadKid, ClearKid, UncountKid, Claim, Unlock, Offer, KeepForOneself, GiveBack, CloseTray, WriteData, CountKid, LinkKid, Plan, Job, Makes, Sweeps, Reading, ReadNothing, ReadData, ReadFirst, ReadSecond, Running, Idle, Reads, GoesDown, Keeps, Drops, Hands, Fetches, TakesOut, Works, WalkReads, WalkGoesDown, Answer, Done, AtNode, Contents, Swept, WorthIs, Outcome, Refused, Begun, StillRunning, Ended, Address, Nowhere, CountOf, LockOf, KidOf, DataOf, InboxOf, TrayOf, Word, NoWord, CountWord, LockWord, KidWord, DataWord, InboxWord, TrayWord, Change, Stays, Fills, Lengthens, Told, Tells, Settles, Decision, Situation}
+use Rattle.model.specs.Types.{Kid, First, Second, Third, Kids, Tray, Closed, Open, Holding, Place, OpenTray, ReadTray, LookForNode, LockNode, Recheck, UnlockAndGoBack, ReadKid, ClearKid, UncountKid, Claim, Unlock, Offer, KeepForOneself, GiveBack, CloseTray, WriteData, CountKid, LinkKid, Plan, Job, Makes, Sweeps, Reading, ReadNothing, ReadData, ReadFirst, ReadSecond, Running, Idle, Reads, GoesDown, Keeps, Drops, Hands, Fetches, TakesOut, Works, WalkReads, WalkGoesDown, Answer, AtNode, Contents, Swept, Outcome, Refused, StillRunning, Ended, Address, Nowhere, CountOf, LockOf, KidOf, DataOf, InboxOf, TrayOf, Word, NoWord, CountWord, LockWord, KidWord, DataWord, InboxWord, TrayWord, Change, Stays, Fills, Lengthens, Tells, Settles, Decision}
 use Rattle.model.specs.State.{kidAt, Store, setCount, setLock, setKid, setInbox, setTray, setSlot, setTrail, setRun, last, longer}
 
 abbrev pub between : ℕ → ℕ → ℕ → Bool
