@@ -51,3 +51,5 @@ pub mod WalkRun
 pub mod MovesApart
 pub mod RefusedTurns
 pub mod StoreLaw
+pub mod SmallOrders
+pub mod FiveCalls

@@ -16,3 +16,4 @@ pub mod Law
 pub mod Existing
 pub mod Shown
 pub mod Sixteen
+pub mod FiveCalls

@@ -1,0 +1,42 @@
+-- A run in which two parties interleave a Make, a Hand, a Fetch, a walk and a Drop.
+use Prim.Native.Nat.{ℕ}
+use mathlib.Core.Path.{_≡_}
+use mathlib.Core.List.{List, [], _∷_}
+use lib.IntN.{pos}
+use Rattle.model.specs.Types.{Plan, Up, Drop, Hand, Fetch, Make, Walk, Asked, AsksCall, AsksWalk, AtNode, WorthIs, Outcome, Ended}
+use Rattle.model.specs.Checks.{Lengths}
+use Rattle.model.specs.Plain.{Ask}
+use Rattle.model.specs.Runs.{System, Log, Run, history}
+use Rattle.model.specs.Opened.{New}
+use Rattle.model.specs.Sixteen.{small}
+
+-- a node without kids whose data is 7, for slot 1
+abbrev pub plan : Plan ℕ
+plan = record { slot = 1; kids = record { first = 0; second = 0; third = 0 }; given = 7 }
+
+-- from slot 2, in low range, first gear, oil at 20 degrees
+abbrev pub over : Walk
+over = record { slot = 2; range = pos 0; gear = pos 1; temperature = pos 20 }
+
+abbrev pub long : Lengths
+long = record { entries = 4; marks = 4; worths = 4 }
+
+-- at first nobody has asked for anything
+abbrev pub asked-nothing : ℕ → Ask ℕ
+asked-nothing q = record { party = q; asked = AsksCall Up; lengths = long }
+
+abbrev by : ℕ → Asked ℕ → Ask ℕ
+by p a = record { party = p; asked = a; lengths = long }
+
+-- party 1 makes node 1 and hands it to party 2, which fetches it, walks over it and drops it
+abbrev pub fiveCalls : List (Ask ℕ × Outcome ℕ ℕ)
+fiveCalls = (by 1 (AsksCall (Make plan)), Ended (AtNode 1)) ∷ (by 1 (AsksCall (Hand 1 2)), Ended (AtNode 1)) ∷ (by 2 (AsksCall (Fetch 2)), Ended (AtNode 1)) ∷ (by 2 (AsksWalk over), Ended (WorthIs 7 1)) ∷ (by 2 (AsksCall (Drop 2)), Ended (AtNode 1)) ∷ []
+
+-- a run from a new store whose calls in the order in which they stand are these
+pub record FiveCallsInterleaved : Type 0 where
+  pub first : System ℕ ℕ (ℕ → ℕ) (ℕ → ℕ)
+  pub last : System ℕ ℕ (ℕ → ℕ) (ℕ → ℕ)
+  pub log : Log small
+  pub starts-new : New small first
+  pub runs : Run small first log last
+  pub history-is : history asked-nothing log ≡ fiveCalls
