@@ -1,4 +1,5 @@
 -- The run in which two parties interleave five calls, Begin by Begin and Turn by Turn.
+use Prim.Native.Nat.{ℕ}
 use mathlib.Core.Path.{refl}
 use mathlib.Core.Bool.{false}
 use mathlib.Core.List.{[], _∷_}
@@ -9,10 +10,12 @@ use Rattle.model.specs.Fun.{upd, sumTo}
 use Rattle.model.specs.Types.{First, Second, Third, Closed, Open, Holding, OpenTray, ReadTray, LookForNode, LockNode, Recheck, ReadKid, Claim, Unlock, Offer, CloseTray, WriteData, Makes, ReadNothing, ReadData, ReadFirst, ReadSecond, Idle, Drops, Hands, Fetches, TakesOut, Works, WalkReads, Drop, Hand, Fetch, Make, AsksCall, AsksWalk, AtNode, WorthIs, Begun, StillRunning, Ended, Situation}
 use Rattle.model.specs.State.{no-trail, along, newStore, setCount, setLock, setInbox, setTray, setSlot, setTrail, setRun}
 use Rattle.model.specs.Walks.{noted}
-use Rattle.model.specs.Runs.{begins, turns, walk-turns, Moves, call-begun, walk-begun, turn, walk-turn, still, more}
-use Rattle.model.specs.Sixteen.{small}
-use Rattle.model.specs.FiveCalls.{plan, over, long, FiveCallsInterleaved}
-use Rattle.model.proofs.SmallOrders.{Small, picking, picks-one, rests}
+use Rattle.model.specs.Runs.{System, begins, turns, walk-turns, Moves, call-begun, walk-begun, turn, walk-turn, Log, Run, still, more}
+use Rattle.model.specs.Opened.{New}
+use Rattle.model.specs.SmallStore.{small, long}
+use Rattle.model.specs.FiveCalls.{plan, over, asked-nothing, FiveCallsInterleaved}
+use Rattle.model.proofs.SmallOrders.{Small, dues-below-span, picking, picks-one, rests}
+use Rattle.model.proofs.StoreLaw.{store-law}
 
 abbrev mild : Situation
 mild = record { range = Low; gear = 1; temperature = pos 20; geared = (omega arith, omega arith); warm = refl }
@@ -43,7 +46,7 @@ abbrev f4 : Small
 f4 = record { store = setRun (f3 .store) 1 (Works (Makes plan) (LockNode 1)); info = f3 .info; notes = upd (f3 .notes) 1 (f3 .notes 1); node-order = picking (f3 .node-order) 1; party-order = f3 .party-order }
 
 m4 : Moves small f3 (turns 1 long) (StillRunning) f4
-m4 = turn refl (record { pick = 1; store-is = refl; info-is = refl; notes-are = refl; node-picks = picks-one 4 (f3 .node-order) 1 1 (omega arith, omega arith) (omega arith) (omega arith, omega arith); party-picks = rests 2 (f3 .party-order) 1 1; tells = refl })
+m4 = turn refl (record { pick = 1; store-is = refl; info-is = refl; notes-are = refl; node-picks = picks-one 4 (f3 .node-order) 1 1 (omega arith, omega arith) (omega arith) (omega arith) (omega arith, omega arith); party-picks = rests 2 (f3 .party-order) 1 1; tells = refl })
 
 abbrev f5 : Small
 f5 = record { store = setRun (setLock (f4 .store) 1 1) 1 (Works (Makes plan) (Recheck 1)); info = f4 .info; notes = upd (f4 .notes) 1 (f4 .notes 1); node-order = f4 .node-order; party-order = f4 .party-order }
@@ -97,7 +100,7 @@ abbrev f13 : Small
 f13 = record { store = setRun (setTray (f12 .store) 1 (Holding 1)) 1 (Works (Makes plan) (CloseTray 1)); info = f12 .info; notes = upd (f12 .notes) 1 (f12 .notes 1); node-order = f12 .node-order; party-order = picking (f12 .party-order) 1 }
 
 m13 : Moves small f12 (turns 1 long) (StillRunning) f13
-m13 = turn refl (record { pick = 1; store-is = refl; info-is = refl; notes-are = refl; node-picks = rests 4 (f12 .node-order) 1 1; party-picks = picks-one 2 (f12 .party-order) 1 1 (omega arith, omega arith) (omega arith) (omega arith, omega arith); tells = refl })
+m13 = turn refl (record { pick = 1; store-is = refl; info-is = refl; notes-are = refl; node-picks = rests 4 (f12 .node-order) 1 1; party-picks = picks-one 2 (f12 .party-order) 1 1 (omega arith, omega arith) (omega arith) (omega arith) (omega arith, omega arith); tells = refl })
 
 abbrev f14 : Small
 f14 = record { store = setRun (setTray (f13 .store) 1 Closed) 1 (Works (Makes plan) (WriteData 1)); info = f13 .info; notes = upd (f13 .notes) 1 (f13 .notes 1); node-order = f13 .node-order; party-order = f13 .party-order }
@@ -181,7 +184,7 @@ abbrev f27 : Small
 f27 = record { store = setRun (f26 .store) 1 (Works (Makes plan) (LockNode 2)); info = f26 .info; notes = upd (f26 .notes) 1 (f26 .notes 1); node-order = picking (f26 .node-order) 1; party-order = f26 .party-order }
 
 m27 : Moves small f26 (turns 1 long) (StillRunning) f27
-m27 = turn refl (record { pick = 2; store-is = refl; info-is = refl; notes-are = refl; node-picks = picks-one 4 (f26 .node-order) 1 2 (omega arith, omega arith) (omega arith) (omega arith, omega arith); party-picks = rests 2 (f26 .party-order) 1 2; tells = refl })
+m27 = turn refl (record { pick = 2; store-is = refl; info-is = refl; notes-are = refl; node-picks = picks-one 4 (f26 .node-order) 1 2 (omega arith, omega arith) (omega arith) (omega arith) (omega arith, omega arith); party-picks = rests 2 (f26 .party-order) 1 2; tells = refl })
 
 abbrev f28 : Small
 f28 = record { store = setRun (setTrail (f27 .store) 2 no-trail) 2 Idle; info = f27 .info; notes = upd (f27 .notes) 2 (noted (f27 .notes 2) 1 7); node-order = f27 .node-order; party-order = f27 .party-order }
@@ -208,12 +211,24 @@ f31 = record { store = setRun (setSlot (setCount (f30 .store) 1 0) 2 2 0) 2 Idle
 m31 : Moves small f30 (turns 2 long) (Ended (AtNode 1)) f31
 m31 = turn refl (record { pick = 0; store-is = refl; info-is = refl; notes-are = refl; node-picks = rests 4 (f30 .node-order) 2 0; party-picks = rests 2 (f30 .party-order) 2 0; tells = refl })
 
+starts : New small f0
+starts = record { limits = record { some-party = omega arith; few-parties = omega arith; some-node = omega arith; few-nodes = omega arith }; store-is = refl; sized = record { nodes = refl; parties = refl } }
+
+abbrev whole : Log small
+whole = ((begins 1 (AsksCall (Make plan)) long, Begun) ∷ (turns 1 long, StillRunning) ∷ (turns 1 long, StillRunning) ∷ (turns 1 long, StillRunning) ∷ (turns 1 long, StillRunning) ∷ (turns 1 long, StillRunning) ∷ (begins 2 (AsksCall (Fetch 2)) long, Begun) ∷ (turns 1 long, StillRunning) ∷ (turns 1 long, StillRunning) ∷ (turns 1 long, StillRunning) ∷ (turns 1 long, StillRunning) ∷ (turns 1 long, StillRunning) ∷ (turns 1 long, StillRunning) ∷ (turns 1 long, StillRunning) ∷ (turns 1 long, Ended (AtNode 1)) ∷ (begins 1 (AsksCall (Hand 1 2)) long, Begun) ∷ (turns 1 long, Ended (AtNode 1)) ∷ (turns 2 long, StillRunning) ∷ (begins 1 (AsksCall (Make plan)) long, Begun) ∷ (turns 2 long, Ended (AtNode 1)) ∷ (begins 2 (AsksWalk over) long, Begun) ∷ (walk-turns 2 long, StillRunning) ∷ (turns 1 long, StillRunning) ∷ (walk-turns 2 long, StillRunning) ∷ (turns 1 long, StillRunning) ∷ (walk-turns 2 long, StillRunning) ∷ (turns 1 long, StillRunning) ∷ (walk-turns 2 long, Ended (WorthIs 7 1)) ∷ (begins 2 (AsksCall (Drop 2)) long, Begun) ∷ (turns 1 long, StillRunning) ∷ (turns 2 long, Ended (AtNode 1)) ∷ [])
+
+whole-runs : Run small f0 whole f31
+whole-runs = more m1 (more m2 (more m3 (more m4 (more m5 (more m6 (more m7 (more m8 (more m9 (more m10 (more m11 (more m12 (more m13 (more m14 (more m15 (more m16 (more m17 (more m18 (more m19 (more m20 (more m21 (more m22 (more m23 (more m24 (more m25 (more m26 (more m27 (more m28 (more m29 (more m30 (more m31 still))))))))))))))))))))))))))))))
+
 pub five-calls-interleaved : FiveCallsInterleaved
-five-calls-interleaved = record {
-  first = f0;
-  last = f31;
-  log = ((begins 1 (AsksCall (Make plan)) long, Begun) ∷ (turns 1 long, StillRunning) ∷ (turns 1 long, StillRunning) ∷ (turns 1 long, StillRunning) ∷ (turns 1 long, StillRunning) ∷ (turns 1 long, StillRunning) ∷ (begins 2 (AsksCall (Fetch 2)) long, Begun) ∷ (turns 1 long, StillRunning) ∷ (turns 1 long, StillRunning) ∷ (turns 1 long, StillRunning) ∷ (turns 1 long, StillRunning) ∷ (turns 1 long, StillRunning) ∷ (turns 1 long, StillRunning) ∷ (turns 1 long, StillRunning) ∷ (turns 1 long, Ended (AtNode 1)) ∷ (begins 1 (AsksCall (Hand 1 2)) long, Begun) ∷ (turns 1 long, Ended (AtNode 1)) ∷ (turns 2 long, StillRunning) ∷ (begins 1 (AsksCall (Make plan)) long, Begun) ∷ (turns 2 long, Ended (AtNode 1)) ∷ (begins 2 (AsksWalk over) long, Begun) ∷ (walk-turns 2 long, StillRunning) ∷ (turns 1 long, StillRunning) ∷ (walk-turns 2 long, StillRunning) ∷ (turns 1 long, StillRunning) ∷ (walk-turns 2 long, StillRunning) ∷ (turns 1 long, StillRunning) ∷ (walk-turns 2 long, Ended (WorthIs 7 1)) ∷ (begins 2 (AsksCall (Drop 2)) long, Begun) ∷ (turns 1 long, StillRunning) ∷ (turns 2 long, Ended (AtNode 1)) ∷ []);
-  starts-new = record { limits = record { some-party = omega arith; few-parties = omega arith; some-node = omega arith; few-nodes = omega arith }; store-is = refl; sized = record { nodes = refl; parties = refl } };
-  runs = more m1 (more m2 (more m3 (more m4 (more m5 (more m6 (more m7 (more m8 (more m9 (more m10 (more m11 (more m12 (more m13 (more m14 (more m15 (more m16 (more m17 (more m18 (more m19 (more m20 (more m21 (more m22 (more m23 (more m24 (more m25 (more m26 (more m27 (more m28 (more m29 (more m30 (more m31 still))))))))))))))))))))))))))))));
-  history-is = refl;
-}
+five-calls-interleaved =
+    let law = store-law small (dues-below-span 4) (dues-below-span 2) in
+    record {
+      first = f0;
+      last = f31;
+      log = whole;
+      starts-new = starts;
+      runs = whole-runs;
+      history-is = refl;
+      plainly = λ s n. law .0 f0 s asked-nothing (law .1 f0 s asked-nothing starts n) whole f31 whole-runs .runs-as-plain;
+    }

@@ -9,8 +9,8 @@ use Rattle.model.specs.Types.{First, Second, Third, Closed, Open, Holding, Ope
 use Rattle.model.specs.State.{newStore, setCount, setLock, setKid, setTray, setSlot, setRun}
 use Rattle.model.specs.Runs.{begins, turns, Moves, call-begun, turn, still, more}
 use Rattle.model.specs.Existing.{CanExist, new, moved}
-use Rattle.model.specs.Sixteen.{small, SixteenIsReached}
-use Rattle.model.specs.FiveCalls.{long}
+use Rattle.model.specs.SmallStore.{small, long}
+use Rattle.model.specs.Sixteen.{SixteenIsReached}
 use Rattle.model.proofs.SmallOrders.{Small, picking, picks-one, rests}
 
 abbrev plan1 : Plan ℕ
@@ -63,7 +63,7 @@ abbrev f4 : Small
 f4 = record { store = setRun (f3 .store) 1 (Works (Makes plan1) (LockNode 1)); info = f3 .info; notes = upd (f3 .notes) 1 (f3 .notes 1); node-order = picking (f3 .node-order) 1; party-order = f3 .party-order }
 
 m4 : Moves small f3 (turns 1 long) (StillRunning) f4
-m4 = turn refl (record { pick = 1; store-is = refl; info-is = refl; notes-are = refl; node-picks = picks-one 4 (f3 .node-order) 1 1 (omega arith, omega arith) (omega arith) (omega arith, omega arith); party-picks = rests 2 (f3 .party-order) 1 1; tells = refl })
+m4 = turn refl (record { pick = 1; store-is = refl; info-is = refl; notes-are = refl; node-picks = picks-one 4 (f3 .node-order) 1 1 (omega arith, omega arith) (omega arith) (omega arith) (omega arith, omega arith); party-picks = rests 2 (f3 .party-order) 1 1; tells = refl })
 
 c4 : CanExist small f4
 c4 = moved c3 m4
@@ -135,7 +135,7 @@ abbrev f12 : Small
 f12 = record { store = setRun (setTray (f11 .store) 1 (Holding 1)) 1 (Works (Makes plan1) (CloseTray 1)); info = f11 .info; notes = upd (f11 .notes) 1 (f11 .notes 1); node-order = f11 .node-order; party-order = picking (f11 .party-order) 1 }
 
 m12 : Moves small f11 (turns 1 long) (StillRunning) f12
-m12 = turn refl (record { pick = 1; store-is = refl; info-is = refl; notes-are = refl; node-picks = rests 4 (f11 .node-order) 1 1; party-picks = picks-one 2 (f11 .party-order) 1 1 (omega arith, omega arith) (omega arith) (omega arith, omega arith); tells = refl })
+m12 = turn refl (record { pick = 1; store-is = refl; info-is = refl; notes-are = refl; node-picks = rests 4 (f11 .node-order) 1 1; party-picks = picks-one 2 (f11 .party-order) 1 1 (omega arith, omega arith) (omega arith) (omega arith) (omega arith, omega arith); tells = refl })
 
 c12 : CanExist small f12
 c12 = moved c11 m12
@@ -189,7 +189,7 @@ abbrev f18 : Small
 f18 = record { store = setRun (f17 .store) 1 (Works (Makes plan2) (LockNode 2)); info = f17 .info; notes = upd (f17 .notes) 1 (f17 .notes 1); node-order = picking (f17 .node-order) 1; party-order = f17 .party-order }
 
 m18 : Moves small f17 (turns 1 long) (StillRunning) f18
-m18 = turn refl (record { pick = 2; store-is = refl; info-is = refl; notes-are = refl; node-picks = picks-one 4 (f17 .node-order) 1 2 (omega arith, omega arith) (omega arith) (omega arith, omega arith); party-picks = rests 2 (f17 .party-order) 1 2; tells = refl })
+m18 = turn refl (record { pick = 2; store-is = refl; info-is = refl; notes-are = refl; node-picks = picks-one 4 (f17 .node-order) 1 2 (omega arith, omega arith) (omega arith) (omega arith) (omega arith, omega arith); party-picks = rests 2 (f17 .party-order) 1 2; tells = refl })
 
 c18 : CanExist small f18
 c18 = moved c17 m18
@@ -261,7 +261,7 @@ abbrev f26 : Small
 f26 = record { store = setRun (setTray (f25 .store) 1 (Holding 2)) 1 (Works (Makes plan2) (CloseTray 2)); info = f25 .info; notes = upd (f25 .notes) 1 (f25 .notes 1); node-order = f25 .node-order; party-order = picking (f25 .party-order) 1 }
 
 m26 : Moves small f25 (turns 1 long) (StillRunning) f26
-m26 = turn refl (record { pick = 1; store-is = refl; info-is = refl; notes-are = refl; node-picks = rests 4 (f25 .node-order) 1 1; party-picks = picks-one 2 (f25 .party-order) 1 1 (omega arith, omega arith) (omega arith) (omega arith, omega arith); tells = refl })
+m26 = turn refl (record { pick = 1; store-is = refl; info-is = refl; notes-are = refl; node-picks = rests 4 (f25 .node-order) 1 1; party-picks = picks-one 2 (f25 .party-order) 1 1 (omega arith, omega arith) (omega arith) (omega arith) (omega arith, omega arith); tells = refl })
 
 c26 : CanExist small f26
 c26 = moved c25 m26
@@ -315,7 +315,7 @@ abbrev f32 : Small
 f32 = record { store = setRun (f31 .store) 1 (Works (Makes plan3) (LockNode 3)); info = f31 .info; notes = upd (f31 .notes) 1 (f31 .notes 1); node-order = picking (f31 .node-order) 1; party-order = f31 .party-order }
 
 m32 : Moves small f31 (turns 1 long) (StillRunning) f32
-m32 = turn refl (record { pick = 3; store-is = refl; info-is = refl; notes-are = refl; node-picks = picks-one 4 (f31 .node-order) 1 3 (omega arith, omega arith) (omega arith) (omega arith, omega arith); party-picks = rests 2 (f31 .party-order) 1 3; tells = refl })
+m32 = turn refl (record { pick = 3; store-is = refl; info-is = refl; notes-are = refl; node-picks = picks-one 4 (f31 .node-order) 1 3 (omega arith, omega arith) (omega arith) (omega arith) (omega arith, omega arith); party-picks = rests 2 (f31 .party-order) 1 3; tells = refl })
 
 c32 : CanExist small f32
 c32 = moved c31 m32
@@ -387,7 +387,7 @@ abbrev f40 : Small
 f40 = record { store = setRun (setTray (f39 .store) 1 (Holding 3)) 1 (Works (Makes plan3) (CloseTray 3)); info = f39 .info; notes = upd (f39 .notes) 1 (f39 .notes 1); node-order = f39 .node-order; party-order = picking (f39 .party-order) 1 }
 
 m40 : Moves small f39 (turns 1 long) (StillRunning) f40
-m40 = turn refl (record { pick = 1; store-is = refl; info-is = refl; notes-are = refl; node-picks = rests 4 (f39 .node-order) 1 1; party-picks = picks-one 2 (f39 .party-order) 1 1 (omega arith, omega arith) (omega arith) (omega arith, omega arith); tells = refl })
+m40 = turn refl (record { pick = 1; store-is = refl; info-is = refl; notes-are = refl; node-picks = rests 4 (f39 .node-order) 1 1; party-picks = picks-one 2 (f39 .party-order) 1 1 (omega arith, omega arith) (omega arith) (omega arith) (omega arith, omega arith); tells = refl })
 
 c40 : CanExist small f40
 c40 = moved c39 m40
@@ -441,7 +441,7 @@ abbrev f46 : Small
 f46 = record { store = setRun (f45 .store) 1 (Works (Makes plan4) (LockNode 4)); info = f45 .info; notes = upd (f45 .notes) 1 (f45 .notes 1); node-order = picking (f45 .node-order) 1; party-order = f45 .party-order }
 
 m46 : Moves small f45 (turns 1 long) (StillRunning) f46
-m46 = turn refl (record { pick = 4; store-is = refl; info-is = refl; notes-are = refl; node-picks = picks-one 4 (f45 .node-order) 1 4 (omega arith, omega arith) (omega arith) (omega arith, omega arith); party-picks = rests 2 (f45 .party-order) 1 4; tells = refl })
+m46 = turn refl (record { pick = 4; store-is = refl; info-is = refl; notes-are = refl; node-picks = picks-one 4 (f45 .node-order) 1 4 (omega arith, omega arith) (omega arith) (omega arith) (omega arith, omega arith); party-picks = rests 2 (f45 .party-order) 1 4; tells = refl })
 
 c46 : CanExist small f46
 c46 = moved c45 m46
@@ -513,7 +513,7 @@ abbrev f54 : Small
 f54 = record { store = setRun (setTray (f53 .store) 1 (Holding 4)) 1 (Works (Makes plan4) (CloseTray 4)); info = f53 .info; notes = upd (f53 .notes) 1 (f53 .notes 1); node-order = f53 .node-order; party-order = picking (f53 .party-order) 1 }
 
 m54 : Moves small f53 (turns 1 long) (StillRunning) f54
-m54 = turn refl (record { pick = 1; store-is = refl; info-is = refl; notes-are = refl; node-picks = rests 4 (f53 .node-order) 1 1; party-picks = picks-one 2 (f53 .party-order) 1 1 (omega arith, omega arith) (omega arith) (omega arith, omega arith); tells = refl })
+m54 = turn refl (record { pick = 1; store-is = refl; info-is = refl; notes-are = refl; node-picks = rests 4 (f53 .node-order) 1 1; party-picks = picks-one 2 (f53 .party-order) 1 1 (omega arith, omega arith) (omega arith) (omega arith) (omega arith, omega arith); tells = refl })
 
 c54 : CanExist small f54
 c54 = moved c53 m54
@@ -621,7 +621,7 @@ abbrev f66 : Small
 f66 = record { store = setRun (f65 .store) 1 (Works Sweeps (LockNode 4)); info = f65 .info; notes = upd (f65 .notes) 1 (f65 .notes 1); node-order = picking (f65 .node-order) 1; party-order = f65 .party-order }
 
 m66 : Moves small f65 (turns 1 long) (StillRunning) f66
-m66 = turn refl (record { pick = 4; store-is = refl; info-is = refl; notes-are = refl; node-picks = picks-one 4 (f65 .node-order) 1 4 (omega arith, omega arith) (omega arith) (omega arith, omega arith); party-picks = rests 2 (f65 .party-order) 1 4; tells = refl })
+m66 = turn refl (record { pick = 4; store-is = refl; info-is = refl; notes-are = refl; node-picks = picks-one 4 (f65 .node-order) 1 4 (omega arith, omega arith) (omega arith) (omega arith) (omega arith, omega arith); party-picks = rests 2 (f65 .party-order) 1 4; tells = refl })
 
 abbrev f67 : Small
 f67 = record { store = setRun (setLock (f66 .store) 4 1) 1 (Works Sweeps (Recheck 4)); info = f66 .info; notes = upd (f66 .notes) 1 (f66 .notes 1); node-order = f66 .node-order; party-order = f66 .party-order }
@@ -705,7 +705,7 @@ abbrev f80 : Small
 f80 = record { store = setRun (f79 .store) 1 (Works Sweeps (GiveBack 4)); info = f79 .info; notes = upd (f79 .notes) 1 (f79 .notes 1); node-order = f79 .node-order; party-order = picking (f79 .party-order) 1 }
 
 m80 : Moves small f79 (turns 1 long) (StillRunning) f80
-m80 = turn refl (record { pick = 2; store-is = refl; info-is = refl; notes-are = refl; node-picks = rests 4 (f79 .node-order) 1 2; party-picks = picks-one 2 (f79 .party-order) 1 2 (omega arith, omega arith) (omega arith) (omega arith, omega arith); tells = refl })
+m80 = turn refl (record { pick = 2; store-is = refl; info-is = refl; notes-are = refl; node-picks = rests 4 (f79 .node-order) 1 2; party-picks = picks-one 2 (f79 .party-order) 1 2 (omega arith, omega arith) (omega arith) (omega arith) (omega arith, omega arith); tells = refl })
 
 pub sixteen-is-reached : SixteenIsReached
 sixteen-is-reached = (f65, c65, refl, (((turns 1 long, StillRunning) ∷ (turns 1 long, StillRunning) ∷ (turns 1 long, StillRunning) ∷ (turns 1 long, StillRunning) ∷ (turns 1 long, StillRunning) ∷ (turns 1 long, StillRunning) ∷ (turns 1 long, StillRunning) ∷ (turns 1 long, StillRunning) ∷ (turns 1 long, StillRunning) ∷ (turns 1 long, StillRunning) ∷ (turns 1 long, StillRunning) ∷ (turns 1 long, StillRunning) ∷ (turns 1 long, StillRunning) ∷ (turns 1 long, StillRunning) ∷ (turns 1 long, StillRunning) ∷ []), f80, more m66 (more m67 (more m68 (more m69 (more m70 (more m71 (more m72 (more m73 (more m74 (more m75 (more m76 (more m77 (more m78 (more m79 (more m80 still)))))))))))))), refl, refl))

@@ -4,11 +4,10 @@ use mathlib.Core.Path.{_≡_}
 use mathlib.Core.List.{List, [], _∷_}
 use lib.IntN.{pos}
 use Rattle.model.specs.Types.{Plan, Up, Drop, Hand, Fetch, Make, Walk, Asked, AsksCall, AsksWalk, AtNode, WorthIs, Outcome, Ended}
-use Rattle.model.specs.Checks.{Lengths}
-use Rattle.model.specs.Plain.{Ask}
+use Rattle.model.specs.Plain.{Plain, NewPlain, Ask, PlainRun}
 use Rattle.model.specs.Runs.{System, Log, Run, history}
-use Rattle.model.specs.Opened.{New}
-use Rattle.model.specs.Sixteen.{small}
+use Rattle.model.specs.Opened.{Agrees, New}
+use Rattle.model.specs.SmallStore.{small, long}
 
 -- a node without kids whose data is 7, for slot 1
 abbrev pub plan : Plan ℕ
@@ -17,9 +16,6 @@ plan = record { slot = 1; kids = record { first = 0; second = 0; third = 0 }; gi
 -- from slot 2, in low range, first gear, oil at 20 degrees
 abbrev pub over : Walk
 over = record { slot = 2; range = pos 0; gear = pos 1; temperature = pos 20 }
-
-abbrev pub long : Lengths
-long = record { entries = 4; marks = 4; worths = 4 }
 
 -- at first nobody has asked for anything
 abbrev pub asked-nothing : ℕ → Ask ℕ
@@ -32,7 +28,7 @@ by p a = record { party = p; asked = a; lengths = long }
 abbrev pub fiveCalls : List (Ask ℕ × Outcome ℕ ℕ)
 fiveCalls = (by 1 (AsksCall (Make plan)), Ended (AtNode 1)) ∷ (by 1 (AsksCall (Hand 1 2)), Ended (AtNode 1)) ∷ (by 2 (AsksCall (Fetch 2)), Ended (AtNode 1)) ∷ (by 2 (AsksWalk over), Ended (WorthIs 7 1)) ∷ (by 2 (AsksCall (Drop 2)), Ended (AtNode 1)) ∷ []
 
--- a run from a new store whose calls in the order in which they stand are these
+-- a run from a new store whose calls in the order in which they stand are these; so the plain store has just these, and agrees
 pub record FiveCallsInterleaved : Type 0 where
   pub first : System ℕ ℕ (ℕ → ℕ) (ℕ → ℕ)
   pub last : System ℕ ℕ (ℕ → ℕ) (ℕ → ℕ)
@@ -40,3 +36,4 @@ pub record FiveCallsInterleaved : Type 0 where
   pub starts-new : New small first
   pub runs : Run small first log last
   pub history-is : history asked-nothing log ≡ fiveCalls
+  pub plainly : (s : Plain ℕ) → NewPlain s → (t : Plain ℕ) × PlainRun small s fiveCalls t × Agrees small last t

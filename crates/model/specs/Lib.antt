@@ -15,5 +15,6 @@ pub mod Opened
 pub mod Law
 pub mod Existing
 pub mod Shown
+pub mod SmallStore
 pub mod Sixteen
 pub mod FiveCalls

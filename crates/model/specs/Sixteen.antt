@@ -1,23 +1,11 @@
--- A store of two parties and four nodes in which a Sweep takes sixteen turns.
+-- A Sweep that takes sixteen turns.
 use Prim.Native.Nat.{ℕ}
 use mathlib.Core.Path.{_≡_}
 use mathlib.Core.Bool.{true}
-use Rattle.model.specs.Setting.{Setting}
 use Rattle.model.specs.Runs.{System, Log, Run, turnsOf, endsOf}
 use Rattle.model.specs.Law.{isBrief}
 use Rattle.model.specs.Existing.{CanExist}
-
--- data is a number that fits any kids; an order's value is how far each party's dues have come down
-abbrev pub small : Setting ℕ ℕ (ℕ → ℕ) (ℕ → ℕ)
-small = record {
-  suits = λ d k. true;
-  worth = λ d t a b c. d;
-  blank = 0;
-  node-order = record { numbers = λ o. 4; horizon = λ o. 100; due = λ o p n. o p };
-  party-order = record { numbers = λ o. 2; horizon = λ o. 100; due = λ o p n. o p };
-  parties = 2;
-  nodes = 4;
-}
+use Rattle.model.specs.SmallStore.{small}
 
 -- in some store that can exist a call that is neither Make nor walk still runs after fifteen turns of its own
 abbrev pub SixteenIsReached : Type 0

@@ -2,6 +2,7 @@
 ghost use Prim.Native.Nat.{ℕ};
 ghost use Rattle.model.specs.Setting.{settingOf};
 ghost use Rattle.model.specs.Law.{StoreLaw};
+ghost use Rattle.model.specs.FiveCalls.{FiveCallsInterleaved};
 use kinds::kind::Kind;
 use orders::order::Order;
 
@@ -10,4 +11,9 @@ use orders::order::Order;
 // of reach; Makes, other calls and walks end within their bounds. A new store is opened.
 pub fn store_law<K: Kind, U: Order, V: Order>()
     ensures { λ _. ⌜ ((N M : ℕ) → StoreLaw (settingOf (K·Kind .suits) (K·Kind .worth) (K·Kind .none) (U·Order .numbers) (U·Order .horizon) (U·Order .due) (V·Order .numbers) (V·Order .horizon) (V·Order .due) N M)) ⌝ }
+{}
+
+// The law speaks of something: from a new store two parties interleave a Make, a Hand, a Fetch, a walk and a Drop.
+pub fn five_calls_interleaved()
+    ensures { λ _. ⌜ FiveCallsInterleaved ⌝ }
 {}
