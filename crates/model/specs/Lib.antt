@@ -18,3 +18,4 @@ pub mod Shown
 pub mod SmallStore
 pub mod Sixteen
 pub mod FiveCalls
+pub mod Strides

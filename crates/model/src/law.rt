@@ -3,6 +3,7 @@ ghost use Prim.Native.Nat.{ℕ};
 ghost use Rattle.model.specs.Setting.{settingOf};
 ghost use Rattle.model.specs.Law.{StoreLaw};
 ghost use Rattle.model.specs.FiveCalls.{FiveCallsInterleaved};
+ghost use Rattle.model.specs.Strides.{StridesOpenANewStore};
 use kinds::kind::Kind;
 use orders::order::Order;
 
@@ -16,4 +17,9 @@ pub fn store_law<K: Kind, U: Order, V: Order>()
 // The law speaks of something: from a new store two parties interleave a Make, a Hand, a Fetch, a walk and a Drop.
 pub fn five_calls_interleaved()
     ensures { λ _. ⌜ FiveCallsInterleaved ⌝ }
+{}
+
+// What the law starts from is met by a new store whose search orders are two strides.
+pub fn strides_open_a_new_store<K: Kind>()
+    ensures { λ _. ⌜ StridesOpenANewStore (K·Kind .suits) (K·Kind .worth) (K·Kind .none) ⌝ }
 {}
