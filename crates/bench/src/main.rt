@@ -1,4 +1,5 @@
 // Works the bench figures out and prints each thing it did.
+mod exhibited_report;
 mod interleaving_report;
 mod maps_report;
 mod orders_report;
@@ -13,6 +14,7 @@ fn main(rt: LibcRuntime) -> Result<(), AnyError> {
     maps_report::report(&rt)?;
     traces_report::report(&rt)?;
     interleaving_report::report(&rt)?;
+    exhibited_report::report(&rt)?;
     let count = figures_that_hold();
     println!(rt, "figures proved of the definitions: {count}")?;
     Ok(())
