@@ -1,8 +1,7 @@
 -- The run in which two parties interleave five calls, Begin by Begin and Turn by Turn.
-use Prim.Native.Nat.{ℕ}
 use mathlib.Core.Path.{refl}
 use mathlib.Core.Bool.{false}
-use mathlib.Core.List.{[], _∷_}
+use mathlib.Core.List.{[], _∷_, _++_}
 use native.Mathlib.Omega.{arith}
 use lib.IntN.{pos}
 use Rattle.kinds.specs.declared.gearbox.Range.the-variants.{Low}
@@ -10,7 +9,7 @@ use Rattle.model.specs.Fun.{upd, sumTo}
 use Rattle.model.specs.Types.{First, Second, Third, Closed, Open, Holding, OpenTray, ReadTray, LookForNode, LockNode, Recheck, ReadKid, Claim, Unlock, Offer, CloseTray, WriteData, Makes, ReadNothing, ReadData, ReadFirst, ReadSecond, Idle, Drops, Hands, Fetches, TakesOut, Works, WalkReads, Drop, Hand, Fetch, Make, AsksCall, AsksWalk, AtNode, WorthIs, Begun, StillRunning, Ended, Situation}
 use Rattle.model.specs.State.{no-trail, along, newStore, setCount, setLock, setInbox, setTray, setSlot, setTrail, setRun}
 use Rattle.model.specs.Walks.{noted}
-use Rattle.model.specs.Runs.{System, begins, turns, walk-turns, Moves, call-begun, walk-begun, turn, walk-turn, Log, Run, still, more}
+use Rattle.model.specs.Runs.{begins, turns, walk-turns, Moves, call-begun, walk-begun, turn, walk-turn, Log, Run, still, more}
 use Rattle.model.specs.Opened.{New}
 use Rattle.model.specs.SmallStore.{small, long}
 use Rattle.model.specs.FiveCalls.{plan, over, asked-nothing, FiveCallsInterleaved}
@@ -214,10 +213,19 @@ m31 = turn refl (record { pick = 0; store-is = refl; info-is = refl; notes-are =
 starts : New small f0
 starts = record { limits = record { some-party = omega arith; few-parties = omega arith; some-node = omega arith; few-nodes = omega arith }; store-is = refl; sized = record { nodes = refl; parties = refl } }
 
-abbrev whole : Log small
-whole = ((begins 1 (AsksCall (Make plan)) long, Begun) ∷ (turns 1 long, StillRunning) ∷ (turns 1 long, StillRunning) ∷ (turns 1 long, StillRunning) ∷ (turns 1 long, StillRunning) ∷ (turns 1 long, StillRunning) ∷ (begins 2 (AsksCall (Fetch 2)) long, Begun) ∷ (turns 1 long, StillRunning) ∷ (turns 1 long, StillRunning) ∷ (turns 1 long, StillRunning) ∷ (turns 1 long, StillRunning) ∷ (turns 1 long, StillRunning) ∷ (turns 1 long, StillRunning) ∷ (turns 1 long, StillRunning) ∷ (turns 1 long, Ended (AtNode 1)) ∷ (begins 1 (AsksCall (Hand 1 2)) long, Begun) ∷ (turns 1 long, Ended (AtNode 1)) ∷ (turns 2 long, StillRunning) ∷ (begins 1 (AsksCall (Make plan)) long, Begun) ∷ (turns 2 long, Ended (AtNode 1)) ∷ (begins 2 (AsksWalk over) long, Begun) ∷ (walk-turns 2 long, StillRunning) ∷ (turns 1 long, StillRunning) ∷ (walk-turns 2 long, StillRunning) ∷ (turns 1 long, StillRunning) ∷ (walk-turns 2 long, StillRunning) ∷ (turns 1 long, StillRunning) ∷ (walk-turns 2 long, Ended (WorthIs 7 1)) ∷ (begins 2 (AsksCall (Drop 2)) long, Begun) ∷ (turns 1 long, StillRunning) ∷ (turns 2 long, Ended (AtNode 1)) ∷ [])
+abbrev head-log : Log small
+head-log = (begins 1 (AsksCall (Make plan)) long, Begun) ∷ (turns 1 long, StillRunning) ∷ (turns 1 long, StillRunning) ∷ (turns 1 long, StillRunning) ∷ (turns 1 long, StillRunning) ∷ (turns 1 long, StillRunning) ∷ (begins 2 (AsksCall (Fetch 2)) long, Begun) ∷ (turns 1 long, StillRunning) ∷ (turns 1 long, StillRunning) ∷ (turns 1 long, StillRunning) ∷ []
 
-whole-runs : Run small f0 whole f31
+abbrev tail-log : Log small
+tail-log = (turns 1 long, StillRunning) ∷ (turns 1 long, StillRunning) ∷ (turns 1 long, StillRunning) ∷ (turns 1 long, StillRunning) ∷ (turns 1 long, Ended (AtNode 1)) ∷ (begins 1 (AsksCall (Hand 1 2)) long, Begun) ∷ (turns 1 long, Ended (AtNode 1)) ∷ (turns 2 long, StillRunning) ∷ (begins 1 (AsksCall (Make plan)) long, Begun) ∷ (turns 2 long, Ended (AtNode 1)) ∷ (begins 2 (AsksWalk over) long, Begun) ∷ (walk-turns 2 long, StillRunning) ∷ (turns 1 long, StillRunning) ∷ (walk-turns 2 long, StillRunning) ∷ (turns 1 long, StillRunning) ∷ (walk-turns 2 long, StillRunning) ∷ (turns 1 long, StillRunning) ∷ (walk-turns 2 long, Ended (WorthIs 7 1)) ∷ (begins 2 (AsksCall (Drop 2)) long, Begun) ∷ (turns 1 long, StillRunning) ∷ (turns 2 long, Ended (AtNode 1)) ∷ []
+
+head-runs : Run small f0 head-log f10
+head-runs = more m1 (more m2 (more m3 (more m4 (more m5 (more m6 (more m7 (more m8 (more m9 (more m10 still)))))))))
+
+tail-runs : Run small f10 tail-log f31
+tail-runs = more m11 (more m12 (more m13 (more m14 (more m15 (more m16 (more m17 (more m18 (more m19 (more m20 (more m21 (more m22 (more m23 (more m24 (more m25 (more m26 (more m27 (more m28 (more m29 (more m30 (more m31 still))))))))))))))))))))
+
+whole-runs : Run small f0 (head-log ++ tail-log) f31
 whole-runs = more m1 (more m2 (more m3 (more m4 (more m5 (more m6 (more m7 (more m8 (more m9 (more m10 (more m11 (more m12 (more m13 (more m14 (more m15 (more m16 (more m17 (more m18 (more m19 (more m20 (more m21 (more m22 (more m23 (more m24 (more m25 (more m26 (more m27 (more m28 (more m29 (more m30 (more m31 still))))))))))))))))))))))))))))))
 
 pub five-calls-interleaved : FiveCallsInterleaved
@@ -225,10 +233,15 @@ five-calls-interleaved =
     let law = store-law small (dues-below-span 4) (dues-below-span 2) in
     record {
       first = f0;
+      middle = f10;
       last = f31;
-      log = whole;
+      before = head-log;
+      after = tail-log;
       starts-new = starts;
-      runs = whole-runs;
+      runs-before = head-runs;
+      runs-after = tail-runs;
+      one-makes = refl;
+      two-fetches = refl;
       history-is = refl;
-      plainly = λ s n. law .0 f0 s asked-nothing (law .1 f0 s asked-nothing starts n) whole f31 whole-runs .runs-as-plain;
+      plainly = λ s n. law .0 f0 s asked-nothing (law .1 f0 s asked-nothing starts n) (head-log ++ tail-log) f31 whole-runs .runs-as-plain;
     }
