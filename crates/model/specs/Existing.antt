@@ -57,6 +57,7 @@ module _ {D W A B : Type 0} (X : Setting D W A B) where
   abbrev pub FreeExactlyWhenLost : Type 0
   FreeExactlyWhenLost = (F : System D W A B) → CanExist F → FreeWhenLost X F
 
+  -- a call that is neither Make nor walk ends within sixteen turns of its own
   abbrev pub CallsEndWithinSixteen : Type 0
   CallsEndWithinSixteen = (F : System D W A B) → CanExist F → OtherCallsEnd X F
 
