@@ -12,7 +12,7 @@ use Rattle.model.specs.Walks.{noted}
 use Rattle.model.specs.Runs.{begins, turns, walk-turns, Moves, call-begun, walk-begun, turn, walk-turn, Log, Run, still, more}
 use Rattle.model.specs.Opened.{New}
 use Rattle.model.specs.SmallStore.{small, long}
-use Rattle.model.specs.FiveCalls.{plan, over, asked-nothing, FiveCallsInterleaved}
+use Rattle.model.specs.FiveCalls.{plan, over, askedNothing, FiveCallsInterleaved}
 use Rattle.model.proofs.SmallOrders.{Small, dues-below-span, picking, picks-one, rests}
 use Rattle.model.proofs.StoreLaw.{store-law}
 
@@ -243,5 +243,5 @@ five-calls-interleaved =
       one-makes = refl;
       two-fetches = refl;
       history-is = refl;
-      plainly = λ s n. law .0 f0 s asked-nothing (law .1 f0 s asked-nothing starts n) (head-log ++ tail-log) f31 whole-runs .runs-as-plain;
+      plainly = λ s n. law .0 f0 s askedNothing (law .1 f0 s askedNothing starts n) (head-log ++ tail-log) f31 whole-runs .runs-as-plain;
     }

@@ -4,23 +4,18 @@ use mathlib.Core.Path.{_≡_, refl, sym, subst}
 use mathlib.Core.Logic.{_≢_}
 use Rattle.model.specs.Types.{Outcome}
 use Rattle.model.specs.Setting.{Setting}
-use Rattle.model.specs.Runs.{System, Event, begins, turns, walk-turns, Moves, begin-refused, call-begun, walk-begun, turn-refused, turn, walk-turn-refused, walk-turn}
+use Rattle.model.specs.Runs.{System, Event, Moves, begin-refused, call-begun, walk-begun, turn-refused, turn, walk-turn-refused, walk-turn}
 use Rattle.model.proofs.Accepted.{turn-passed, walk-turn-passed}
 use Rattle.model.proofs.Kept.{Kept}
 use Rattle.model.proofs.FitsAlways.{step-is}
+use Rattle.model.proofs.Others.{partyOf}
 use Rattle.model.proofs.Apart.{Apart, apart-begun, apart-walk-begun, apart-steps}
-
--- whose Begin or Turn it is
-abbrev pub moverOf : {D : Type 0} → Event D → ℕ
-moverOf (begins q a l) = q
-moverOf (turns q l) = q
-moverOf (walk-turns q l) = q
 
 module _ {D W A B : Type 0} (X : Setting D W A B) where
   apart-same : (F G : System D W A B) (p : ℕ) → G ≡ F → Apart X F G p
   apart-same F G p g = subst (λ H. Apart X F H p) (sym g) (record { kept = λ n _. (refl, refl); own-info = λ v _ _ _ _. refl; slot = refl; trail = refl; run = refl; notes = refl })
 
-  pub apart-moves : {F G : System D W A B} {e : Event D} {o : Outcome D W} → Kept X F → (p : ℕ) → p ≢ moverOf e → Moves X F e o G → Apart X F G p
+  pub apart-moves : {F G : System D W A B} {e : Event D} {o : Outcome D W} → Kept X F → (p : ℕ) → p ≢ partyOf e → Moves X F e o G → Apart X F G p
   apart-moves {F} {G} K p ne (begin-refused r h t g) = apart-same F G p g
   apart-moves {F} K p ne (call-begun {p = q} {c} h t g) = subst (λ H. Apart X F H p) (sym g) (apart-begun X F q p ne c)
   apart-moves {F} K p ne (walk-begun {p = q} {w} t worths h d o g) = subst (λ H. Apart X F H p) (sym g) (apart-walk-begun X F q p ne (w .slot) t worths)

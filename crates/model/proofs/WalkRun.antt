@@ -31,7 +31,8 @@ use Rattle.model.proofs.Worths.{SameTerm, worth-there, term-has-there, term-ha
 use Rattle.model.proofs.Walk.{View, spent, none-marked, Standing, standing-there, standing-begun, spent-bound, Turned, goes-on, ends}
 use Rattle.model.proofs.WalkTurn.{viewOf, StandingIn, PlaceIn, place-walks, walk-slot, walk-low, standing-of, so-far-of, place-of, walk-turned, WalkAnswers, walk-turn-writes-nothing}
 use Rattle.model.proofs.Apart.{Apart}
-use Rattle.model.proofs.MovesApart.{moverOf, apart-moves}
+use Rattle.model.proofs.Others.{partyOf}
+use Rattle.model.proofs.MovesApart.{apart-moves}
 
 module _ {D W A B : Type 0} (X : Setting D W A B) where
   in-term-reached : (F : System D W A B) (r : ℕ) → Reached (X .parties) (F .store) r → (x : ℕ) → InTerm (F .store .kids) r x → Reached (X .parties) (F .store) x
@@ -93,7 +94,7 @@ module _ {D W A B : Type 0} (X : Setting D W A B) where
     still-walking : (F : System D W A B) (c : ℕ) → Walker F c → isWalking (F .store .run p) ≡ true
     still-walking F c w = place-walks X F p t (w .standing .at) (F .store .run p) (w .standing .place)
 
-    apart-came : {F G : System D W A B} {e : Event D} {o : Outcome D W} (c : ℕ) → Walker F c → p ≢ moverOf e → Moves X F e o G → counts e o ≡ false → Came G c e o
+    apart-came : {F G : System D W A B} {e : Event D} {o : Outcome D W} (c : ℕ) → Walker F c → p ≢ partyOf e → Moves X F e o G → counts e o ≡ false → Came G c e o
     apart-came {F} {G} c w ne mv k =
         let Q = apart-moves X (w .kept) p ne mv in
         let S = w .kept .sound in

@@ -20,8 +20,8 @@ abbrev pub over : Walk
 over = record { slot = 2; range = pos 0; gear = pos 1; temperature = pos 20 }
 
 -- at first nobody has asked for anything
-abbrev pub asked-nothing : ℕ → Ask ℕ
-asked-nothing q = record { party = q; asked = AsksCall Up; lengths = long }
+abbrev pub askedNothing : ℕ → Ask ℕ
+askedNothing q = record { party = q; asked = AsksCall Up; lengths = long }
 
 abbrev by : ℕ → Asked ℕ → Ask ℕ
 by p a = record { party = p; asked = a; lengths = long }
@@ -43,5 +43,5 @@ pub record FiveCallsInterleaved : Type 0 where
   pub runs-after : Run small middle after last
   pub one-makes : isMaking (middle .store .run 1) ≡ true
   pub two-fetches : middle .store .run 2 ≡ Fetches 2
-  pub history-is : history asked-nothing (before ++ after) ≡ fiveCalls
+  pub history-is : history askedNothing (before ++ after) ≡ fiveCalls
   pub plainly : (s : Plain ℕ) → NewPlain s → (t : Plain ℕ) × PlainRun small s fiveCalls t × Agrees small last t
