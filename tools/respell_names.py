@@ -51,15 +51,18 @@ def read(path):
 
 
 def declared(root):
-    names = set()
+    names, of_std = set(), set()
     for path in files(root, ".antt"):
+        text = read(path)
+        for taken in re.findall(r"use Rattle\.std\.[\w.'\-]+\.\{([^}]*)\}", text):
+            of_std.update(n.strip() for n in taken.split(","))
         if os.path.basename(path) in GENERATED:
             continue
-        for line in read(path).splitlines():
+        for line in text.splitlines():
             m = DECLARED.match(line)
             if m and m.group(1).split()[0] not in WORDS:
                 names.update(m.group(1).split())
-    return names
+    return names - of_std
 
 
 def snake(name):
@@ -73,7 +76,7 @@ def is_type(name):
 def table(names):
     old = {n for n in names if re.fullmatch(r"[A-Za-z][\w'\-]*", n) and not is_type(n) and re.search(r"-|[a-z0-9][A-Z]", n)}
     humps = {snake(n) for n in old if "-" not in n and n not in BY_HAND}
-    new: dict[str, str] = {}
+    new = {}
     for n in sorted(old):
         plain = snake(n)
         new[n] = plain + "_lem" if "-" in n and plain in humps else plain

@@ -1,6 +1,6 @@
 -- A trail in its array: what lengthening and shortening make of it.
 use Rattle.std.proofs.Common.{◌≡◌, ℕ, zero, suc, ◌+◌, ◌-◌, ◌<◌, ◌≤◌, ◌⊎◌, List, ◌∷◌, length, get_or, set, sym, refl, ap, ◌∙◌, inl, inr, arith}
-use Rattle.std.proofs.lemmas.List.{get_or-set_same, get_or_set_other, get_or_past}
+use Rattle.std.proofs.lemmas.List.{get_or-set_same, get_or-set_other, get_or_past}
 use Rattle.model.specs.declared.trail.Trail.{Trail as TrailRecord}
 use Rattle.model.specs.State.{along, backwards, trail_of, last_of, longer, shorter}
 use Rattle.model.specs.Existing.{trail_length}
@@ -12,14 +12,14 @@ laid e l ns = record { entered = e; length = l; nodes = ns }
 backwards_set : (ns : List ℕ) (i v k : ℕ) → k ≤ i → backwards (set ns i v) k ≡ backwards ns k
 backwards_set ns i v zero h = refl
 backwards_set ns i v (suc k) h =
-    let e = get_or_set_other ns i k v 0 (λ z. omega arith) in
+    let e = get_or-set_other ns i k v 0 (λ z. omega arith) in
     let r = backwards_set ns i v k (omega arith) in
     cc
 
 lengthened : (e k v : ℕ) (ns : List ℕ) → suc k < length ns → trail_of (laid e (suc (suc k)) (set ns (suc k) v)) ≡ longer (trail_of (laid e (suc k) ns)) v
 lengthened e k v ns h =
     let a = get_or-set_same ns (suc k) v 0 h in
-    let b = get_or_set_other ns (suc k) k v 0 (λ z. omega arith) in
+    let b = get_or-set_other ns (suc k) k v 0 (λ z. omega arith) in
     let r = backwards_set ns (suc k) v k (omega arith) in
     cc
 

@@ -1,4 +1,6 @@
 // Kinds of data that a term's nodes may hold, and what a node is worth in a situation.
+#![tactic(auto)]
+
 pub mod codes;
 pub mod gearbox;
 pub mod given;

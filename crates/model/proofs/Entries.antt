@@ -1,7 +1,7 @@
 -- What a program's reads and writes of a list do to its entries by number.
 use Rattle.std.proofs.Common.{◌≡◌, ℕ, zero, suc, ◌-◌, ◌<◌, ◌≤◌, ◌⊎◌, List, length, get_or, set, sym, refl, ap, ◌∙◌, inl, inr, arith}
 use mathlib.Core.Path.{fun_ext}
-use Rattle.std.proofs.lemmas.List.{get_or-set_same, get_or_set_other, get_or_past}
+use Rattle.std.proofs.lemmas.List.{get_or-set_same, get_or-set_other, get_or_past}
 use Rattle.std.proofs.lemmas.Bool.{cases_eq}
 use Rattle.model.specs.Fun.{upd}
 use Rattle.model.specs.Entries.{nth}
@@ -19,7 +19,7 @@ nth_set d l (suc n) v h k = fun_ext (λ m. go m)
     go zero = sym (upd_other (nth d l) (suc n) zero v (λ z. omega arith))
     go (suc m) = ap (λ i. get_or (set l i v) m d) e ∙ elim (cases_eq m n) [
       | inl q ↦ ap (λ i. get_or (set l n v) i d) q ∙ get_or-set_same l n v d (omega arith) ∙ sym (upd_same (nth d l) (suc n) v) ∙ ap (λ i. upd (nth d l) (suc n) v (suc i)) (sym q)
-      | inr z ↦ get_or_set_other l n m v d z ∙ sym (upd_other (nth d l) (suc n) (suc m) v (λ y. z (let u : m ≡ n = omega arith in u)))
+      | inr z ↦ get_or-set_other l n m v d z ∙ sym (upd_other (nth d l) (suc n) (suc m) v (λ y. z (let u : m ≡ n = omega arith in u)))
     ]
 
 -- what a program's `v[n - 1]` reads

@@ -1,4 +1,6 @@
 // The model of the shared store: the types that the program and the law share, and what is proved of every run.
+#![tactic(auto)]
+
 pub mod calls;
 pub mod ending;
 pub mod existing;

@@ -1,7 +1,7 @@
 -- A round whose stride shares no factor with its size shows every number within one round, and each move
 -- brings the others nearer. What stands at a place is left open, so one argument serves every order on a round.
 use Rattle.std.specs.Prelude.{◌≡◌, ℕ, suc, ◌+◌, ◌-◌, ◌*◌, ◌/◌, ◌%◌, ◌<◌, ◌≤◌, ◌⊎◌, List, length, ◌≢◌, slice_set}
-use Rattle.std.proofs.Common.{sym, ap, subst, ◌∙◌, inl, inr, arith, get_or-set_same, get_or_set_other, mul-add, add-mul, mul_comm, mul_assoc, mul-one, one-mul, mod-eq_of_lt, mod-lt}
+use Rattle.std.proofs.Common.{sym, ap, subst, ◌∙◌, inl, inr, arith, get_or-set_same, get_or-set_other, mul-add, add-mul, mul_comm, mul_assoc, mul-one, one-mul, mod-eq_of_lt, mod-lt}
 use Rattle.std.proofs.Math.Nat.{div-add-mod, add-mul-mod_self_left, mod-add-mod}
 use Rattle.std.proofs.lemmas.List.{get_or_past}
 use Rattle.std.proofs.lemmas.Bool.{cases_lt}
@@ -92,7 +92,7 @@ module _ (shown : ℕ → ℕ) (m stride : ℕ) (hm : 1 ≤ m) (hs : 1 ≤ strid
     others is q n isq other =
         let other' : q - 1 ≡ p - 1 → ⊥ = λ e. other (omega (arith, is, isq)) in
         let kept : place_of places' q ≡ place_of places q =
-        ap (λ l. place_of l q) (moved is) ∙ get_or_set_other places (p - 1) (q - 1) (next_place m stride (place_of places p)) 0 other' in
+        ap (λ l. place_of l q) (moved is) ∙ get_or-set_other places (p - 1) (q - 1) (next_place m stride (place_of places p)) 0 other' in
         due-is' q n ∙ ap (λ a. round_due shown m stride a n) kept ∙ sym (due-is q n)
 
     own : (is : IsParty p) → place_of places' p ≡ next_place m stride (place_of places p)

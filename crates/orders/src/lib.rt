@@ -1,4 +1,6 @@
 // Search orders: in which order each party tries the numbers 1 to m.
+#![tactic(auto)]
+
 pub mod card;
 pub mod limits;
 pub mod order;

@@ -1,4 +1,6 @@
 // Why a making or a call is turned down: one enum for the whole project, each case with its fixed number.
+#![tactic(auto)]
+
 ghost use Rattle.std.specs.Prelude.{◌≡◌};
 ghost use Rattle.refusals.specs.Numbers.{number_of};
 

@@ -1,4 +1,5 @@
 // The shared store: opening it, and a party's Begins and Turns.
+#![tactic(auto)]
 mod beginning;
 pub mod errors;
 mod open;
