@@ -126,7 +126,7 @@ module _ {D W A B : Type 0} (X : Setting D W A B) where
     pub apart_steps : Sound X.parties X.nodes F.store → 1 ≤ p → p ≤ X.parties → (o : Outcome D W) (G : System D W A B) (T : Steps X F p o G) → StepIs X F p T.pick → Apart F G q
     apart_steps U a b o G T e =
         let d = decision {W = W} X.parties X.nodes F.store F.info p T.pick in
-        apart_moved U a b T.pick d e (data_after_lem W X.parties X.nodes F.store F.info p T.pick) d.told G T.Store-is T.info_is T.notes_are
+        apart_moved U a b T.pick d e (data_after_lem W X.parties X.nodes F.store F.info p T.pick) d.told G T.store_is T.info_is T.notes_are
 
   -- all of a walk's term is reached
   pub walk_reaches : (F : System D W A B) → Sound X.parties X.nodes F.store → (q : ℕ) → 1 ≤ q → q ≤ X.parties → (i : ℕ) (t : Situation) → WalkSoFar X F q i t

@@ -71,7 +71,7 @@ module _ {D W A B : Type 0} (X : Setting D W A B) where
     -- a step of a Make or Sweep is the explicit one
     pub job_step : (j : Job D) (c : Place) → F.store.run q ≡ Works j c → G.store ≡ place_step c j F.store q T.pick
     job_step j c e =
-        T.Store-is
+        T.store_is
         ∙ told_at_once here.told (tells_at_once W (F.store.run q) (loaded F.store F.info (looks_at X.parties X.nodes F.store q T.pick)) q T.pick (F.store.slot q) (last F.store q) (subst (λ r. IsFourth r → ⊥) (sym e) (λ z. z)))
         ∙ step_is X F G K q o a b T runs ∙ ap (λ r. turn_at r F.store F.info q T.pick) e
 
@@ -84,7 +84,7 @@ module _ {D W A B : Type 0} (X : Setting D W A B) where
     calm_told (Settles t e ks) w c = calm_settled F.store q w X.worth X.blank (F.notes q) t ks
 
     pub calm_step : NoJob (F.store.run q) → Calm F.store G.store q
-    calm_step h = subst (λ t. Calm F.store t q) (sym T.Store-is)
+    calm_step h = subst (λ t. Calm F.store t q) (sym T.store_is)
         (calm_told here.told (no_job_waits F.store.count (F.store.run q) h)
         (subst (λ t. Calm F.store t q) (sym (step_is X F G K q o a b T runs)) (calm_turn_at X.parties X.nodes F.store K.sound F.info q a b T.pick (F.store.run q) refl h)))
 
@@ -92,7 +92,7 @@ module _ {D W A B : Type 0} (X : Setting D W A B) where
     before = changed (written F.store (looks_at X.parties X.nodes F.store q T.pick) here.word) q here.change
 
     next_here : (u : Outcome D W) → here.told ≡ Tells u → is_idle (G.store.run q) ≡ is_idle here.next
-    next_here u t = ap (λ s. is_idle (s.run q)) (T.Store-is ∙ ap (λ t. (moved_as X F q T.pick here t).store) t) ∙ ap is_idle (upd_same before.run q here.next)
+    next_here u t = ap (λ s. is_idle (s.run q)) (T.store_is ∙ ap (λ t. (moved_as X F q T.pick here t).store) t) ∙ ap is_idle (upd_same before.run q here.next)
 
     -- a Make runs on, or has ended
     pub making_tells : (plan : Plan D) (c : Place) → F.store.run q ≡ Works (Makes plan) c → ((o ≡ StillRunning) × (is_idle (G.store.run q) ≡ false)) ⊎ ((is_end o ≡ true) × (is_idle (G.store.run q) ≡ true))

@@ -68,7 +68,7 @@ module _ {D W A B : Type 0} (X : Setting D W A B) where
         let pk = picked X F G K p o a b T (s.run p) refl in
         let et : here.told ≡ Tells (told_at (s.run p) s p x) = told_is W N M s F.info p x (s.run p) refl running w (fit_of N M s O.sound p a b (s.run p) refl) pk in
         let H = having X F (turn_at (s.run p) s F.info p x) (data_at (s.run p) F.info) in
-        let es : G.store ≡ H.store = T.Store-is ∙ ap (λ v. (moved_as X F p x here v).store) et ∙ explicit in
+        let es : G.store ≡ H.store = T.store_is ∙ ap (λ v. (moved_as X F p x here v).store) et ∙ explicit in
         let ei : G.info ≡ H.info = T.info_is ∙ ap (λ v. (moved_as X F p x here v).info) et ∙ data_after_lem W N M s F.info p x in
         let eo : o ≡ told_at (s.run p) s p x = T.tells ∙ ap (λ v. (moved_as X F p x here v).outcome) et in
         subst (Own X false G t p (asked p)) (sym eo)
@@ -119,7 +119,7 @@ module _ {D W A B : Type 0} (X : Setting D W A B) where
     -- a walk's turn
     module _ (w : is_walking (F.store.run p) ≡ true) where
       untouched : Untouched G.store G.info
-      untouched = subst (λ s. Untouched s G.info) (sym T.Store-is) (subst (Untouched (moved X F p T.pick).store) (sym T.info_is) (moved_untouched w here.told))
+      untouched = subst (λ s. Untouched s G.info) (sym T.store_is) (subst (Untouched (moved X F p T.pick).store) (sym T.info_is) (moved_untouched w here.told))
 
       -- the plain store shows no trail of a walk, and none after it
       walk_agrees : shown (G.store.run p) (G.store.trail p) ≡ no_trail → Agrees X G t

@@ -215,7 +215,7 @@ module _ {D W A B : Type 0} (X : Setting D W A B) where
       let i = w.slot in
       let u = walk_slot X F S p a b i so.at so.before so.entered in
       let same : SameTerm F.store.kids F.info s.kids s.info (F.store.slot p i) = λ x h. A.terms x (in_term_reached F (F.store.slot p i) (by_slot p i a b u.0 u.1 refl u.2) x h) in
-      let worth-there-is = worth_there F.store.kids F.info s.kids s.info (F.store.slot p i) same X.worth X.blank t (λ _. inl refl) H.Works-out in
+      let worth-there-is = worth_there F.store.kids F.info s.kids s.info (F.store.slot p i) same X.worth X.blank t (λ _. inl refl) H.works_out in
       let number-there = term_has_there F.store.kids F.info s.kids s.info (F.store.slot p i) same X.nodes H.number H.term_has in
       subst (λ o. Happens X s p (AsksWalk w) o s) (sym H.answers)
       (subst (λ f. WorksOut X.worth X.blank s.kids s.info t (f p i) H.worth_is → TermHas X.nodes s.kids (f p i) H.number → Happens X s p (AsksWalk w) (Ended (WorthIs H.worth_is H.number)) s) A.slots

@@ -5,3 +5,4 @@ pub mod Making
 pub mod RoundsLemmas
 pub mod Before
 pub mod Factors
+pub mod CardsLemmas

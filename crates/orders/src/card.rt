@@ -3,7 +3,7 @@ ghost use Rattle.orders.specs.Limits.{IsParty};
 ghost use Rattle.orders.specs.Making.{SizeFits, CardFits, RefusedBy, Made, times_on};
 ghost use Rattle.orders.specs.Meaning.{IsNumber, Picked};
 ghost use Rattle.orders.specs.Rounds.{next_place, place_of, round_due, entry_at};
-ghost use Rattle.std.proofs.Common.{rules, arith};
+ghost use Rattle.orders.specs.CardsLemmas.{card_dues_below};
 
 use crate::limits::{LARGEST_SIZE, Number, PARTIES, Party};
 use crate::order::Order;
@@ -52,9 +52,11 @@ impl Order for Card {
 
     ghost due = { λ s p n. round_due (entry_at s.entries.items) s.round.size 1 (place_of s.round.places p) n };
 
-    ghost at_least_one = { first_of (Prim.search rules, Prim.grind (arith, Self.row.coded.inj)) };
+    ghost at_least_one = { λ o. o.round.some.0 };
 
-    ghost due_below_span = { first_of (Prim.search rules, Prim.grind (arith, Self.row.coded.inj)) };
+    ghost due_below_span = { λ o p n is number.
+        card_dues_below o.round.size o.entries.items (record { entries = o.long; once = o.once })
+        o.round.some.0 (place_of o.round.places p) n (o.round.placed p is) number };
 
     fn size(&self) -> Number {
         self.round.size

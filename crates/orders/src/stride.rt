@@ -4,7 +4,6 @@ ghost use Rattle.orders.specs.Making.{SizeFits, StrideFits, NoSharedFactor, Refu
 ghost use Rattle.orders.specs.Meaning.{Picked};
 ghost use Rattle.orders.specs.Rounds.{next_place, place_of, round_due};
 ghost use Rattle.orders.specs.RoundsLemmas.{dues_below};
-ghost use Rattle.std.proofs.Common.{rules, arith};
 
 use crate::limits::{LARGEST_SIZE, LONGEST_STRIDE, Number, PARTIES, Party};
 use crate::order::Order;
@@ -46,7 +45,7 @@ impl Order for Stride {
 
     ghost due = { λ s p n. round_due (λ q. q) s.round.size s.stride (place_of s.round.places p) n };
 
-    ghost at_least_one = { first_of (Prim.search rules, Prim.grind (arith, Self.row.coded.inj)) };
+    ghost at_least_one = { λ o. o.round.some.0 };
 
     ghost due_below_span = { λ o p n is number.
         dues_below (λ q. q) o.round.size o.stride o.round.some.0 o.positive.0 o.apart

@@ -5,6 +5,6 @@ use Rattle.orders.proofs.card.fits.Goals as goal
 
 pub loop-n-preserved : goal.loop-n-preserved
 loop-n-preserved c k low high = elim (cases_eq k c.loop-n.n) [
-  | inl e ↦ ap (times_on c.args.entries.now) e ∙ c.if-not-stands-once.ensures
+  | inl e ↦ ap (times_on c.args.entries.now) e ∙ c.if-not-stands_once.ensures
   | inr other ↦ c.loop-n.invariant k low (omega arith)
 ]

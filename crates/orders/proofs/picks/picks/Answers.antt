@@ -5,19 +5,19 @@ use Rattle.orders.proofs.picks.picks.Goals as goal
 
 pub loop-init : goal.loop-init
 loop-init g c =
-    let made = c.in-ok-answers.ensures in
+    let made = c.in_ok-answers.ensures in
     let P : List ℕ → Type 0 = λ l. PickedInTurn g.O.Order.numbers g.O.Order.horizon g.O.Order.due c.args.party c.args.order.now l c.args.order.now in
     (subst P (sym made.items) none, made.len, made.capacity)
 
-pub pick-onto-requires : goal.pick-onto-requires
-pick-onto-requires g c = omega (arith, c.loop.invariant)
+pub pick_onto-requires : goal.pick_onto-requires
+pick_onto-requires g c = omega (arith, c.loop.invariant)
 
 pub loop-preserved : goal.loop-preserved
 loop-preserved g c =
-    let pushed = c.pick-onto.ensures in
-    let P : List ℕ → Type 0 = λ l. PickedInTurn g.O.Order.numbers g.O.Order.horizon g.O.Order.due c.args.party c.args.order.now l c.pick-onto.new.order in
-    let run = one_more g.O.Order.numbers g.O.Order.horizon g.O.Order.due c.args.party c.args.order.now c.loop.order c.pick-onto.new.order
-    (vec_items c.loop.answers) c.pick-onto.result c.loop.invariant.0 c.pick-onto.ensures.picked in
+    let pushed = c.pick_onto.ensures in
+    let P : List ℕ → Type 0 = λ l. PickedInTurn g.O.Order.numbers g.O.Order.horizon g.O.Order.due c.args.party c.args.order.now l c.pick_onto.new.order in
+    let run = one_more g.O.Order.numbers g.O.Order.horizon g.O.Order.due c.args.party c.args.order.now c.loop.order c.pick_onto.new.order
+    (vec_items c.loop.answers) c.pick_onto.result c.loop.invariant.0 c.pick_onto.ensures.picked in
     (subst P (sym pushed.items) run, omega (arith, pushed.len, c.loop.invariant.1), omega (arith, pushed.capacity, c.loop.invariant.2))
 
 pub returns : goal.returns

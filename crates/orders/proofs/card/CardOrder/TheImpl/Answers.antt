@@ -3,19 +3,13 @@ use Rattle.orders.specs.Making.{CardFits}
 use Rattle.orders.specs.Rounds.{place_of, round_due, entry_at}
 use Rattle.orders.specs.contracts.card.CardOrder.TheImpl as own
 use Rattle.orders.specs.declared.card.Card.{Card}
-use Rattle.orders.proofs.Cards.{entry_is_number, number_stands}
+use Rattle.orders.specs.CardsLemmas.{entry_is_number, number_stands}
 use Rattle.orders.specs.Factors.{none_shared_with_one}
-use Rattle.orders.specs.RoundsLemmas.{dues_below, move_is_pick}
+use Rattle.orders.specs.RoundsLemmas.{move_is_pick}
 use Rattle.orders.proofs.card.CardOrder.TheImpl.Goals as goal
 
 fits : (o : Card) → CardFits o.round.size (vec_items o.entries)
 fits o = record { entries = o.long; once = o.once }
-
-pub due-below-span-law : goal.due-below-span-law
-due-below-span-law o p n is number =
-    dues_below (entry_at (vec_items o.entries)) o.round.size 1 o.round.some.0 (omega arith) (none_shared_with_one o.round.size)
-    (number_stands o.round.size (vec_items o.entries) (fits o)) (entry_is_number o.round.size (vec_items o.entries) (fits o))
-    (place_of o.round.places p) n (o.round.placed p is) number
 
 pub pick-tells : goal.pick-tells
 pick-tells c =

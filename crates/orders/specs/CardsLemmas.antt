@@ -4,7 +4,9 @@ use Rattle.std.proofs.lemmas.Bool.{cond_both, cases_lt, cases_eq, eq-eqb, ne_eqb
 use Rattle.std.proofs.lemmas.List.Sums.{sum_by-cons}
 use Rattle.orders.specs.Meaning.{IsNumber}
 use Rattle.orders.specs.Making.{times_on, CardFits}
-use Rattle.orders.specs.Rounds.{entry_at}
+use Rattle.orders.specs.Rounds.{entry_at, round_due}
+use Rattle.orders.specs.Factors.{none_shared_with_one}
+use Rattle.orders.specs.RoundsLemmas.{dues_below}
 
 times_cons : (x : ℕ) (xs : List ℕ) (n : ℕ) → times_on (x ∷ xs) n ≡ cond (eqb x n) 1 0 + times_on xs n
 times_cons x xs n = sum_by-cons (λ y. cond (eqb y n) 1 0) x xs
@@ -96,3 +98,7 @@ module _ (m : ℕ) (card : List ℕ) (fits : CardFits m card) where
   number_stands n hn =
       let r = stands_at card n (omega (arith, fits.once n hn)) in
       (r.0 + 1, (omega arith, omega (arith, r.1, fits.entries)), ap (λ k. get_or card k 0) (let e : r.0 + 1 - 1 ≡ r.0 = omega arith in e) ∙ r.2)
+
+  -- on a card every number is due within one round
+  pub card_dues_below : 1 ≤ m → (q n : ℕ) → IsNumber m q → IsNumber m n → round_due (entry_at card) m 1 q n < m
+  card_dues_below some = dues_below (entry_at card) m 1 some (omega arith) (none_shared_with_one m) number_stands entry_is_number
