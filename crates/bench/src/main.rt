@@ -1,4 +1,6 @@
 // Works the bench figures out and prints each thing it did.
+#![tactic(auto)]
+
 mod exhibited_report;
 mod interleaving_report;
 mod maps_report;

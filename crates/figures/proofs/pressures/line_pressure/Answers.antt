@@ -11,13 +11,13 @@ use Rattle.figures.specs.Pressures.{base_pressure, frost, line_pressure, OtherRa
 use Rattle.figures.proofs.Inside.{inside_pos, minus, held_inside, again, read_again}
 use Rattle.figures.proofs.pressures.line_pressure.Goals as goal
 
-base-bounds : (range : Range) → (900 ≤ base_pressure range) × (base_pressure range ≤ 1450)
-base-bounds Low = (omega arith, omega arith)
-base-bounds High = (omega arith, omega arith)
+base_bounds : (range : Range) → (900 ≤ base_pressure range) × (base_pressure range ≤ 1450)
+base_bounds Low = (omega arith, omega arith)
+base_bounds High = (omega arith, omega arith)
 
-frost-bound : (t : ℤ) → between coldest hottest t ≡ true → frost t ≤ 40
-frost-bound (pos n) h = omega arith
-frost-bound (negsuc n) h = omega (arith, leb-true n 39 (and_parts (leb n 39) true h).0)
+frost_bound : (t : ℤ) → between coldest hottest t ≡ true → frost t ≤ 40
+frost_bound (pos n) h = omega arith
+frost_bound (negsuc n) h = omega (arith, leb-true n 39 (and_parts (leb n 39) true h).0)
 
 -- the bases lie 550 kPa apart
 ranges_apart : (s t : Situation) → OtherRange s t → pos (line_pressure s) ≡ pos (line_pressure t) → ⊥
@@ -35,18 +35,18 @@ returns c =
     let base : ℕ = base_pressure s.range in
     let cold : ℕ = frost s.temperature in
     let gears : ℕ = 16 * s.gear in
-    let bounds = base-bounds s.range in
-    let colds = frost-bound s.temperature s.warm in
+    let bounds = base_bounds s.range in
+    let colds = frost_bound s.temperature s.warm in
     let few = s.geared.1 in
     let wanted : c.node-wanted.result ≡ pos (base + cold) =
     c.node-wanted.ensures
-    ∙ ap (λ y. limited (y +ℤ again c.below-zero.result)) (read_again c.base.result base c.base.ensures (omega arith))
-    ∙ ap (λ y. limited (pos base +ℤ y)) (read_again c.below-zero.result cold c.below-zero.ensures (omega arith))
+    ∙ ap (λ y. limited (y +ℤ again c.below_zero.result)) (read_again c.base.result base c.base.ensures (omega arith))
+    ∙ ap (λ y. limited (pos base +ℤ y)) (read_again c.below_zero.result cold c.below_zero.ensures (omega arith))
     ∙ inside_pos (base + cold) (omega arith) in
     let eased : c.node-eased.result ≡ pos (base + cold - gears) =
     c.node-eased.ensures
-    ∙ ap (λ y. limited (y -ℤ again c.sixteen-gears.result)) (read_again c.node-wanted.result (base + cold) wanted (omega arith))
-    ∙ ap (λ y. limited (pos (base + cold) -ℤ y)) (read_again c.sixteen-gears.result gears c.sixteen-gears.ensures (omega arith))
+    ∙ ap (λ y. limited (y -ℤ again c.sixteen_gears.result)) (read_again c.node-wanted.result (base + cold) wanted (omega arith))
+    ∙ ap (λ y. limited (pos (base + cold) -ℤ y)) (read_again c.sixteen_gears.result gears c.sixteen_gears.ensures (omega arith))
     ∙ ap limited (minus (base + cold) gears (omega arith))
     ∙ inside_pos (base + cold - gears) (omega arith) in
     let held : c.node.result ≡ pos (base + cold - gears) =
@@ -57,4 +57,4 @@ returns c =
     ∙ ap limited (held_inside (base + cold - gears) 400 1800 (omega arith) (omega arith))
     ∙ inside_pos (base + cold - gears) (omega arith) in
     let value = read_again c.node.result (base + cold - gears) held (omega arith) in
-    record { value = value; never-of-the-other-range = λ t o e. ranges_apart s t o (sym value ∙ e) }
+    record { value = value; never_of_the_other_range = λ t o e. ranges_apart s t o (sym value ∙ e) }
