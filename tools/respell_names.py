@@ -5,7 +5,7 @@ usage: python3 tools/respell_names.py      at the top of the checkout, once
 
 A name that specs/ or a file of lemmas declares, and that has a dash or a hump, as `no-trail` or `kidAt`, becomes
 `no_trail` or `kid_at`, wherever it stands: in specs, proofs, clauses and must-fail edits, and between backticks in
-README.md and docs/. Names of types are left. Where two names would fall together, the definition gets the plain
+README.md and docs/. Names of types and of functions in src/ are left. Where two names would fall together, the definition gets the plain
 spelling and the lemma beside it `_lem` at its end; what that rule does not settle stands in BY_HAND.
 """
 
@@ -115,10 +115,11 @@ def main():
         print(f"fall together as {b}: {', '.join(a)}", file=sys.stderr)
     for path in files(root, ".antt", ".rt", ".edit", ".md"):
         text = read(path)
+        own = new if path.endswith(".antt") else {k: v for k, v in new.items() if k != k.lower() or "-" in k}
         if path.endswith(".md"):
-            turned = re.sub(r"`[^`\n]+`", lambda m: turn(m.group(0), new, None), text)
+            turned = re.sub(r"`[^`\n]+`", lambda m: turn(m.group(0), own, None), text)
         else:
-            turned = turn(text, new, "--" if path.endswith(".antt") else "//" if path.endswith(".rt") else None)
+            turned = turn(text, own, "--" if path.endswith(".antt") else "//" if path.endswith(".rt") else None)
         if turned != text:
             with open(path, "w", encoding="utf-8") as f:
                 f.write(turned)

@@ -1,5 +1,6 @@
 // The words of a store in lists: reading and writing one of them, one step of a party, what a Begin changes, where a walk goes.
 #![tactic(auto)]
+
 mod making;
 mod reading;
 pub mod records;

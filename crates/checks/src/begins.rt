@@ -1,5 +1,6 @@
 ghost use Rattle.std.specs.Prelude.{◌≡◌};
 ghost use Rattle.model.specs.Checks.{begin_fault};
+ghost use Rattle.checks.specs.Lengths.{lengths_of};
 ghost use Rattle.model.specs.Entries.{nth};
 ghost use Rattle.model.specs.State.{trail_of};
 
@@ -26,7 +27,7 @@ pub fn begin_fault<K: Kind>(
     parties: Party,
     nodes: Node,
 ) -> Option<Refusal>
-    ensures { result ≡ begin_fault K.Kind.suits parties nodes busy party asked.now lengths (nth 0 slots.now) (trail_of trail.now) }
+    ensures { result ≡ begin_fault K.Kind.suits parties nodes busy party asked.now (lengths_of lengths) (nth 0 slots.now) (trail_of trail.now) }
 {
     if no_party(party, parties) || no_receiver(asked, parties) {
         return Some(Refusal::NoSuchParty);

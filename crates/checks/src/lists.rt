@@ -1,5 +1,6 @@
 ghost use Rattle.std.specs.Prelude.{◌≡◌, ◌||◌, nat_lt};
 ghost use Rattle.model.specs.Checks.{too_short};
+ghost use Rattle.checks.specs.Lengths.{lengths_of};
 
 use model::calls::{Asked, Lengths};
 use model::nodes::Node;
@@ -21,7 +22,7 @@ pub(crate) fn walk_lists_too_short(lengths: Lengths, nodes: Node) -> bool
 }
 
 pub(crate) fn too_short<D: Copy>(asked: &Asked<D>, lengths: Lengths, nodes: Node) -> bool
-    ensures { result ≡ too_short nodes asked.now lengths }
+    ensures { result ≡ too_short nodes asked.now (lengths_of lengths) }
 {
     match *asked {
         Asked::AsksCall(_) => data_too_short(lengths, nodes),

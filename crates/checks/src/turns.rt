@@ -1,5 +1,6 @@
 ghost use Rattle.std.specs.Prelude.{◌≡◌};
 ghost use Rattle.model.specs.Checks.{is_idle, is_walking, turn_fault, walk_turn_fault};
+ghost use Rattle.checks.specs.Lengths.{lengths_of};
 
 use crate::first::first_of;
 use crate::lists::{data_too_short, walk_lists_too_short};
@@ -36,7 +37,7 @@ pub fn turn_fault<D: Copy>(
     parties: Party,
     nodes: Node,
 ) -> Option<Refusal>
-    ensures { result ≡ turn_fault parties nodes party lengths running.now }
+    ensures { result ≡ turn_fault parties nodes party (lengths_of lengths) running.now }
 {
     first_of(&[
         (no_party(party, parties), Refusal::NoSuchParty),
@@ -54,7 +55,7 @@ pub fn walk_turn_fault<D: Copy>(
     parties: Party,
     nodes: Node,
 ) -> Option<Refusal>
-    ensures { result ≡ walk_turn_fault parties nodes party lengths running.now }
+    ensures { result ≡ walk_turn_fault parties nodes party (lengths_of lengths) running.now }
 {
     first_of(&[
         (no_party(party, parties), Refusal::NoSuchParty),

@@ -13,7 +13,7 @@ pub(crate) fn data_given<D: Copy, W: Copy>(job: &Job<D>, v: Node) -> Decision<D,
     ensures { result ≡ data_given job.now v }
 {
     match *job {
-        Job::Makes(plan) => from_first_lem(&plan, v, Word::DataWord(plan.given)),
+        Job::Makes(plan) => from_first(&plan, v, Word::DataWord(plan.given)),
         Job::Sweeps => stop(Outcome::StillRunning),
     }
 }
@@ -32,7 +32,7 @@ fn next_kid<D: Copy, W: Copy>(plan: &Plan<D>, v: Node, k: Kid, word: Word<D>) ->
     ensures { result ≡ onward plan.now v k word }
 {
     match k {
-        Kid::First => from_second_lem(plan, v, word),
+        Kid::First => from_second(plan, v, word),
         Kid::Second => from_third(plan, v, word),
         Kid::Third => fill_slot(plan, v, word),
     }
@@ -42,7 +42,7 @@ fn from_first<D: Copy, W: Copy>(plan: &Plan<D>, v: Node, word: Word<D>) -> Decis
     ensures { result ≡ from_first plan.now v word }
 {
     if plan.kids.first == 0 {
-        return from_second_lem(plan, v, word);
+        return from_second(plan, v, word);
     }
     go(
         word,

@@ -1,5 +1,6 @@
 // The shared store: opening it, and a party's Begins and Turns.
 #![tactic(auto)]
+
 mod beginning;
 pub mod errors;
 mod open;

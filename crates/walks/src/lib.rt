@@ -1,4 +1,5 @@
 // A walk's notes in the two lists of its caller: which nodes it has marked, and what each is worth.
 #![tactic(auto)]
+
 pub mod marks;
 pub mod worths;

@@ -11,15 +11,15 @@ returns g c =
     let n = c.args.n in
     let marks = c.args.marks.now in
     let worths = c.args.worths.now in
-    let worth = c.work-out-worth.result in
-    let there = entries_there M marks worths n (sym c.if-not-has-entries.ensures) in
+    let worth = c.work_out-worth.result in
+    let there = entries_there M marks worths n (sym c.if-not-has_entries.ensures) in
     record {
-      whether = c.if-not-has-entries.ensures;
-      noted = λ _. noted_by_writes blank M marks c.write-at.new.marks worths c.write-at.new.worths n worth there c.write-at.ensures.marks c.write-at.ensures.worths
-          ∙ ap (λ w. noted (notes_of blank M marks worths) n w) c.work-out-worth.ensures;
+      whether = c.if-not-has_entries.ensures;
+      noted = λ _. noted_by_writes blank M marks c.write_at.new.marks worths c.write_at.new.worths n worth there c.write_at.ensures.marks c.write_at.ensures.worths
+          ∙ ap (λ w. noted (notes_of blank M marks worths) n w) c.work_out-worth.ensures;
       others = λ m other. (
-        entry_beside false marks c.write-at.new.marks n m true c.write-at.ensures.marks there.0 (omega arith) other,
-        entry_beside blank worths c.write-at.new.worths n m worth c.write-at.ensures.worths there.0 (omega arith) other,
+        entry_beside false marks c.write_at.new.marks n m true c.write_at.ensures.marks there.0 (omega arith) other,
+        entry_beside blank worths c.write_at.new.worths n m worth c.write_at.ensures.worths there.0 (omega arith) other,
       );
       same = search rules;
     }
