@@ -13,4 +13,4 @@ returns g c =
     let x = c.index-record.result.now in
     let n : s.table.records.len ≡ length l = s.table.records.ok.0 in
     let own : x ≡ nth new_record l p = entry_is new_record l p x (omega arith) (omega arith) c.index-record.ensures in
-    c.decide.ensures ∙ decides_there x (record_of s p) own c.last-node.result c.last-node.ensures g.row.W.Denot c.args.word.now p c.args.pick
+    c.decide.ensures ∙ decides_there x (record_of s p) own c.last_node.result c.last_node.ensures g.row.W.Denot c.args.word.now p c.args.pick

@@ -47,11 +47,11 @@ returns g c =
     let is : between 1 (parties_of s) p ≡ true = is_within (parties_of s) p lo (omega arith) in
     let t = c.args.situation in
     let b = c.args.below in
-    let trail = c.trail-on.ensures ∙ ap (λ z. trails_on b (trail_of z.trail)) own in
-    let runs = c.run-on-record.ensures ∙ ap (runs_on t b) trail in
-    let x : PartyRecord g.row.D.Denot = record { slots = y.slots; inbox = y.inbox; tray = y.tray; trail = c.trail-on.new.trail; running = c.run-on-record.result } in
+    let trail = c.trail_on.ensures ∙ ap (λ z. trails_on b (trail_of z.trail)) own in
+    let runs = c.run_on-record.ensures ∙ ap (runs_on t b) trail in
+    let x : PartyRecord g.row.D.Denot = record { slots = y.slots; inbox = y.inbox; tray = y.tray; trail = c.trail_on.new.trail; running = c.run_on-record.result } in
     record {
-      told = c.is-idle.ensures ∙ sym (ap (λ f. is_idle (f p).running) (nth_set new_record l p x lo hi) ∙ ap (λ z. is_idle z.running) (upd_same (nth new_record l) p x));
+      told = c.is_idle.ensures ∙ sym (ap (λ f. is_idle (f p).running) (nth_set new_record l p x lo hi) ∙ ap (λ z. is_idle z.running) (upd_same (nth new_record l) p x));
       view = own_put s.nodes.items l p x y lo hi own refl refl (trails_on b ((view_of s).trail p)) (runs_on t b (trails_on b ((view_of s).trail p))) refl trail runs
           ∙ sym (cond-true (between 1 (parties_of s) p) (goes_on (view_of s) p t b) (view_of s) is);
       sizes = record { parties = refl; nodes = refl };

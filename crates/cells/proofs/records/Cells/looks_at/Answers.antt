@@ -13,4 +13,4 @@ returns g c =
     let x = c.index-record.result.now in
     let n : s.table.records.len ≡ length l = s.table.records.ok.0 in
     let own : x ≡ nth new_record l p = entry_is new_record l p x (omega arith) (omega arith) c.index-record.ensures in
-    c.address-of.ensures ∙ looks_there x (record_of s p) own c.last-node.result c.last-node.ensures c.len-parties.result (parties_of s) c.len-nodes.result (nodes_of s) p c.args.pick c.len-parties.ensures c.len-nodes.ensures
+    c.address_of.ensures ∙ looks_there x (record_of s p) own c.last_node.result c.last_node.ensures c.len-parties.result (parties_of s) c.len-nodes.result (nodes_of s) p c.args.pick c.len-parties.ensures c.len-nodes.ensures

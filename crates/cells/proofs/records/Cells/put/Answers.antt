@@ -15,14 +15,14 @@ returns-in-CountWord g c =
     let f = c.in-CountWord.is in
     let info = c.args.data.now in
     record {
-      view = written_at (view_of c.args.self.now) (view_of c.set-count.new.self) a (CountOf c.in-CountOf.n) w (CountWord c.in-CountWord.v) e f c.set-count.ensures.view;
+      view = written_at (view_of c.args.self.now) (view_of c.set_count.new.self) a (CountOf c.in-CountOf.n) w (CountWord c.in-CountWord.v) e f c.set_count.ensures.view;
       entries = λ d. data_at_lem (nth d info) (nth d info) a (CountOf c.in-CountOf.n) w (CountWord c.in-CountWord.v) e f refl;
-      sizes = c.set-count.ensures.sizes;
+      sizes = c.set_count.ensures.sizes;
     }
 
-pub returns-in-default : goal.returns-in-default
-returns-in-default g c =
-    let u = untouched_at c.args.address (CountOf c.in-CountOf.n) c.args.word c.in-CountOf.is (no_count_word c.in-CountOf.n c.args.word c.in-default.not-CountWord) in
+pub returns-in_default : goal.returns-in_default
+returns-in_default g c =
+    let u = untouched_at c.args.address (CountOf c.in-CountOf.n) c.args.word c.in-CountOf.is (no_count_word c.in-CountOf.n c.args.word c.in_default.not-CountWord) in
     record { view = u.store (view_of c.args.self.now); entries = λ d. u.entries (nth d c.args.data.now); sizes = record { parties = refl; nodes = refl } }
 
 pub returns-in-LockWord : goal.returns-in-LockWord
@@ -33,14 +33,14 @@ returns-in-LockWord g c =
     let f = c.in-LockWord.is in
     let info = c.args.data.now in
     record {
-      view = written_at (view_of c.args.self.now) (view_of c.set-lock.new.self) a (LockOf c.in-LockOf.n) w (LockWord c.in-LockWord.v) e f c.set-lock.ensures.view;
+      view = written_at (view_of c.args.self.now) (view_of c.set_lock.new.self) a (LockOf c.in-LockOf.n) w (LockWord c.in-LockWord.v) e f c.set_lock.ensures.view;
       entries = λ d. data_at_lem (nth d info) (nth d info) a (LockOf c.in-LockOf.n) w (LockWord c.in-LockWord.v) e f refl;
-      sizes = c.set-lock.ensures.sizes;
+      sizes = c.set_lock.ensures.sizes;
     }
 
-pub returns-in-default-word : goal.returns-in-default-word
-returns-in-default-word g c =
-    let u = untouched_at c.args.address (LockOf c.in-LockOf.n) c.args.word c.in-LockOf.is (no_lock_word c.in-LockOf.n c.args.word c.in-default-word.not-LockWord) in
+pub returns-in_default-word : goal.returns-in_default-word
+returns-in_default-word g c =
+    let u = untouched_at c.args.address (LockOf c.in-LockOf.n) c.args.word c.in-LockOf.is (no_lock_word c.in-LockOf.n c.args.word c.in_default-word.not-LockWord) in
     record { view = u.store (view_of c.args.self.now); entries = λ d. u.entries (nth d c.args.data.now); sizes = record { parties = refl; nodes = refl } }
 
 pub returns-in-KidWord : goal.returns-in-KidWord
@@ -51,14 +51,14 @@ returns-in-KidWord g c =
     let f = c.in-KidWord.is in
     let info = c.args.data.now in
     record {
-      view = written_at (view_of c.args.self.now) (view_of c.set-kid.new.self) a (KidOf c.in-KidOf.n c.in-KidOf.k) w (KidWord c.in-KidWord.v) e f c.set-kid.ensures.view;
+      view = written_at (view_of c.args.self.now) (view_of c.set_kid.new.self) a (KidOf c.in-KidOf.n c.in-KidOf.k) w (KidWord c.in-KidWord.v) e f c.set_kid.ensures.view;
       entries = λ d. data_at_lem (nth d info) (nth d info) a (KidOf c.in-KidOf.n c.in-KidOf.k) w (KidWord c.in-KidWord.v) e f refl;
-      sizes = c.set-kid.ensures.sizes;
+      sizes = c.set_kid.ensures.sizes;
     }
 
-pub returns-in-default-word-2 : goal.returns-in-default-word-2
-returns-in-default-word-2 g c =
-    let u = untouched_at c.args.address (KidOf c.in-KidOf.n c.in-KidOf.k) c.args.word c.in-KidOf.is (no_kid_word c.in-KidOf.n c.in-KidOf.k c.args.word c.in-default-word-2.not-KidWord) in
+pub returns-in_default-word-2 : goal.returns-in_default-word-2
+returns-in_default-word-2 g c =
+    let u = untouched_at c.args.address (KidOf c.in-KidOf.n c.in-KidOf.k) c.args.word c.in-KidOf.is (no_kid_word c.in-KidOf.n c.in-KidOf.k c.args.word c.in_default-word-2.not-KidWord) in
     record { view = u.store (view_of c.args.self.now); entries = λ d. u.entries (nth d c.args.data.now); sizes = record { parties = refl; nodes = refl } }
 
 pub returns-in-InboxWord : goal.returns-in-InboxWord
@@ -69,14 +69,14 @@ returns-in-InboxWord g c =
     let f = c.in-InboxWord.is in
     let info = c.args.data.now in
     record {
-      view = written_at (view_of c.args.self.now) (view_of c.set-inbox.new.self) a (InboxOf c.in-InboxOf.q) w (InboxWord c.in-InboxWord.v) e f c.set-inbox.ensures.view;
+      view = written_at (view_of c.args.self.now) (view_of c.set_inbox.new.self) a (InboxOf c.in-InboxOf.q) w (InboxWord c.in-InboxWord.v) e f c.set_inbox.ensures.view;
       entries = λ d. data_at_lem (nth d info) (nth d info) a (InboxOf c.in-InboxOf.q) w (InboxWord c.in-InboxWord.v) e f refl;
-      sizes = c.set-inbox.ensures.sizes;
+      sizes = c.set_inbox.ensures.sizes;
     }
 
-pub returns-in-default-word-4 : goal.returns-in-default-word-4
-returns-in-default-word-4 g c =
-    let u = untouched_at c.args.address (InboxOf c.in-InboxOf.q) c.args.word c.in-InboxOf.is (no_inbox_word c.in-InboxOf.q c.args.word c.in-default-word-4.not-InboxWord) in
+pub returns-in_default-word-4 : goal.returns-in_default-word-4
+returns-in_default-word-4 g c =
+    let u = untouched_at c.args.address (InboxOf c.in-InboxOf.q) c.args.word c.in-InboxOf.is (no_inbox_word c.in-InboxOf.q c.args.word c.in_default-word-4.not-InboxWord) in
     record { view = u.store (view_of c.args.self.now); entries = λ d. u.entries (nth d c.args.data.now); sizes = record { parties = refl; nodes = refl } }
 
 pub returns-in-TrayWord : goal.returns-in-TrayWord
@@ -87,14 +87,14 @@ returns-in-TrayWord g c =
     let f = c.in-TrayWord.is in
     let info = c.args.data.now in
     record {
-      view = written_at (view_of c.args.self.now) (view_of c.set-tray.new.self) a (TrayOf c.in-TrayOf.q) w (TrayWord c.in-TrayWord.v) e f c.set-tray.ensures.view;
+      view = written_at (view_of c.args.self.now) (view_of c.set_tray.new.self) a (TrayOf c.in-TrayOf.q) w (TrayWord c.in-TrayWord.v) e f c.set_tray.ensures.view;
       entries = λ d. data_at_lem (nth d info) (nth d info) a (TrayOf c.in-TrayOf.q) w (TrayWord c.in-TrayWord.v) e f refl;
-      sizes = c.set-tray.ensures.sizes;
+      sizes = c.set_tray.ensures.sizes;
     }
 
-pub returns-in-default-word-5 : goal.returns-in-default-word-5
-returns-in-default-word-5 g c =
-    let u = untouched_at c.args.address (TrayOf c.in-TrayOf.q) c.args.word c.in-TrayOf.is (no_tray_word c.in-TrayOf.q c.args.word c.in-default-word-5.not-TrayWord) in
+pub returns-in_default-word-5 : goal.returns-in_default-word-5
+returns-in_default-word-5 g c =
+    let u = untouched_at c.args.address (TrayOf c.in-TrayOf.q) c.args.word c.in-TrayOf.is (no_tray_word c.in-TrayOf.q c.args.word c.in_default-word-5.not-TrayWord) in
     record { view = u.store (view_of c.args.self.now); entries = λ d. u.entries (nth d c.args.data.now); sizes = record { parties = refl; nodes = refl } }
 
 pub returns-in-DataWord : goal.returns-in-DataWord

@@ -18,9 +18,9 @@ returns g c =
     let e : x ≡ nth new_words l n = entry_is new_words l n x a b c.index-words.ensures in
     let v = view_of s in
     record {
-      view = words_put l s.table.records.items n (record { count = x.count; lock = x.lock; kids = c.with-kid-words.result }) a b
+      view = words_put l s.table.records.items n (record { count = x.count; lock = x.lock; kids = c.with_kid-words.result }) a b
           v.count v.lock (upd v.kids n (put_kid (v.kids n) c.args.k c.args.v))
           (upd_own v.count n x.count (ap (λ y. y.count) e)) (upd_own v.lock n x.lock (ap (λ y. y.lock) e))
-          (ap (upd v.kids n) (c.with-kid-words.ensures ∙ ap (λ y. put_kid y.kids c.args.k c.args.v) e));
+          (ap (upd v.kids n) (c.with_kid-words.ensures ∙ ap (λ y. put_kid y.kids c.args.k c.args.v) e));
       sizes = record { parties = refl; nodes = refl };
     }

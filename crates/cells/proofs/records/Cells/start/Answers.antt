@@ -22,10 +22,10 @@ returns g c =
     let hi : p ≤ length l = omega arith in
     let own : y ≡ nth new_record l p = entry_is new_record l p y lo hi c.lend-record.ensures.value in
     let is : between 1 (parties_of s) p ≡ true = is_within (parties_of s) p lo (omega arith) in
-    let x : PartyRecord g.row.D.Denot = record { slots = y.slots; inbox = y.inbox; tray = y.tray; trail = c.begin-trail.new.trail; running = c.begin-running-record.result } in
+    let x : PartyRecord g.row.D.Denot = record { slots = y.slots; inbox = y.inbox; tray = y.tray; trail = c.begin_trail.new.trail; running = c.begin_running-record.result } in
     record {
       told = sym is;
-      view = begun_put s.nodes.items l p x y lo hi own refl refl c.args.call.now refl c.begin-trail.ensures c.begin-running-record.ensures
+      view = begun_put s.nodes.items l p x y lo hi own refl refl c.args.call.now refl c.begin_trail.ensures c.begin_running-record.ensures
           ∙ sym (cond-true (between 1 (parties_of s) p) (started c.args.call.now (view_of s) p) (view_of s) is);
       sizes = record { parties = refl; nodes = refl };
     }

@@ -30,7 +30,7 @@ returns g c =
     record {
       told = sym is;
       view = own_put s.nodes.items l p x y lo hi own refl refl (along i ((view_of s).slot p i) []) (WalkReads t ReadNothing) refl
-          (c.enter.ensures ∙ ap (λ v. along i v []) (c.node-of-node.ensures ∙ ap (λ z. nth 0 z.slots i) own)) refl
+          (c.enter.ensures ∙ ap (λ v. along i v []) (c.node_of-node.ensures ∙ ap (λ z. nth 0 z.slots i) own)) refl
           ∙ sym (cond-true (between 1 (parties_of s) p) (started_walk i t (view_of s) p) (view_of s) is);
       sizes = record { parties = refl; nodes = refl };
     }

@@ -35,15 +35,15 @@ returns-then-not-stands g c =
     let N : ℕ = parties_of s in
     let M : ℕ = nodes_of s in
     let f : stands N M (length info) (looks_at N M (view_of s) p x) ≡ false =
-    ap (stands N M (length info)) (sym c.looks-at-address.ensures) ∙ sym c.if-not-stands.ensures in
+    ap (stands N M (length info)) (sym c.looks_at-address.ensures) ∙ sym c.if-not-stands.ensures in
     record {
       steps = λ d. stays g.row.W.Denot N M (length info) (view_of s) (nth d info) p x (view_of s) (nth d info)
           (no_word g.row.W.Denot N M (length info) (view_of s) (nth d info) p x f) refl refl;
       sizes = record { parties = refl; nodes = refl };
     }
 
-pub returns-in-default : goal.returns-in-default
-returns-in-default g c =
+pub returns-in_default : goal.returns-in_default
+returns-in_default g c =
     let s = c.args.self.now in
     let info = c.args.data.now in
     let p : ℕ = c.args.party in
@@ -53,8 +53,8 @@ returns-in-default g c =
     record {
       steps = λ d. stays g.row.W.Denot N M (length info) (view_of s) (nth d info) p x (view_of s) (nth d info)
           (no_move g.row.W.Denot N M (length info) (view_of s) (nth d info) p x
-          (undecided g.row.W.Denot N M (length info) (view_of s) (nth d info) p x c.looks-at-address.result c.looks-at-address.ensures c.load-word.result (c.load-word.ensures d)
-          c.decided.result c.decided.ensures c.in-default.is)) refl refl;
+          (undecided g.row.W.Denot N M (length info) (view_of s) (nth d info) p x c.looks_at-address.result c.looks_at-address.ensures c.load-word.result (c.load-word.ensures d)
+          c.decided.result c.decided.ensures c.in_default.is)) refl refl;
       sizes = record { parties = refl; nodes = refl };
     }
 
@@ -70,13 +70,13 @@ returns-then-not-takes g c =
     record {
       steps = λ d. stays g.row.W.Denot N M (length info) (view_of s) (nth d info) p x (view_of s) (nth d info)
           (no_room g.row.W.Denot N M (length info) (view_of s) (nth d info) p x
-          (ap (λ z. has_room ((view_of s).trail p) z.change) (sym (decided_is g.row.W.Denot N M (length info) (view_of s) (nth d info) p x c.looks-at-address.result c.looks-at-address.ensures c.load-word.result (c.load-word.ensures d)
+          (ap (λ z. has_room ((view_of s).trail p) z.change) (sym (decided_is g.row.W.Denot N M (length info) (view_of s) (nth d info) p x c.looks_at-address.result c.looks_at-address.ensures c.load-word.result (c.load-word.ensures d)
           c.decided.result k c.decided.ensures c.in-Some.is)) ∙ sym c.if-not-takes.ensures)) refl refl;
       sizes = record { parties = refl; nodes = refl };
     }
 
-pub settle-step-requires : goal.settle-step-requires
-settle-step-requires g c =
+pub settle_step-requires : goal.settle_step-requires
+settle_step-requires g c =
     let s = c.args.self.now in
     let p : ℕ = c.args.party in
     let N : ℕ = parties_of s in
@@ -85,7 +85,7 @@ settle-step-requires g c =
     let same : parties_of c.put.new.self ≡ N = c.put.ensures.sizes.parties in
     record {
       party = (omega arith, omega arith);
-      room = ap (λ t. has_room (t.trail p) k.change) c.put.ensures.view ∙ ap (λ t. has_room (t p) k.change) (trails_stay (view_of s) c.looks-at-address.result k.word) ∙ sym c.if-not-takes.ensures;
+      room = ap (λ t. has_room (t.trail p) k.change) c.put.ensures.view ∙ ap (λ t. has_room (t p) k.change) (trails_stay (view_of s) c.looks_at-address.result k.word) ∙ sym c.if-not-takes.ensures;
     }
 
 pub returns : goal.returns
@@ -97,12 +97,12 @@ returns g c =
     let N : ℕ = parties_of s in
     let M : ℕ = nodes_of s in
     let k = c.in-Some.decision in
-    let a = c.looks-at-address.result in
-    let ea = c.looks-at-address.ensures in
+    let a = c.looks_at-address.result in
+    let ea = c.looks_at-address.ensures in
     let w = c.load-word.result in
     let len : c.len.result ≡ N = c.len.ensures in
     let put = c.put.new.self in
-    let end = c.settle-step.new.self in
+    let end = c.settle_step.new.self in
     record {
       steps = λ d.
           let ew = c.load-word.ensures d in
@@ -112,9 +112,9 @@ returns g c =
           (moves g.row.W.Denot N M (length info) (view_of s) (nth d info) p x a ea w ew c.decided.result k c.decided.ensures c.in-Some.is)
           (ap (λ z. has_room ((view_of s).trail p) z.change) (sym ek) ∙ sym c.if-not-takes.ensures) in
           steps g.row.W.Denot N M (length info) (view_of s) (nth d info) p x a ea w ew k ek all (view_of put) (view_of end) (nth d c.put.new.data)
-          c.put.ensures.view (c.put.ensures.entries d) c.settle-step.ensures.view;
+          c.put.ensures.view (c.put.ensures.entries d) c.settle_step.ensures.view;
       sizes = record {
-        parties = c.settle-step.ensures.sizes.parties ∙ c.put.ensures.sizes.parties;
-        nodes = c.settle-step.ensures.sizes.nodes ∙ c.put.ensures.sizes.nodes;
+        parties = c.settle_step.ensures.sizes.parties ∙ c.put.ensures.sizes.parties;
+        nodes = c.settle_step.ensures.sizes.nodes ∙ c.put.ensures.sizes.nodes;
       };
     }
