@@ -27,7 +27,8 @@ BY_HAND = {
     "from_first": "from_first_lem",
     "from_second": "from_second_lem",
     "from-third": "from_third_lem",
-    "walkBegun": "walk_begun_lem",  # `walk-begun` is a constructor
+    "walkBegun": "walk_begun_system",  # `walk-begun` is a constructor
+    "on-trail": "on_trail_before",  # a field that says it of `onTrail`
     "last-at": "last_at_lem",
     "shut-place": "shut_place_lem",
     "told-after": "told_after_lem",
@@ -56,7 +57,7 @@ def declared(root):
         text = read(path)
         for taken in re.findall(r"use Rattle\.std\.[\w.'\-]+\.\{([^}]*)\}", text):
             of_std.update(n.strip() for n in taken.split(","))
-        if os.path.basename(path) in GENERATED:
+        if "/proofs/" in path and os.path.basename(path) in GENERATED:
             continue
         for line in text.splitlines():
             m = DECLARED.match(line)
@@ -66,7 +67,12 @@ def declared(root):
 
 
 def snake(name):
-    return re.sub(r"([a-z0-9])([A-Z])", lambda m: m.group(1) + "_" + m.group(2).lower(), name).replace("-", "_")
+    def part(word):
+        if word[:1].isupper():  # a type or a constructor keeps its spelling
+            return word
+        return re.sub(r"([a-z0-9])([A-Z])", lambda m: m.group(1) + "_" + m.group(2).lower(), word)
+
+    return "_".join(part(word) for word in name.split("-"))
 
 
 def is_type(name):

@@ -4,7 +4,7 @@ use kinds::codes::Code;
 use kinds::gearbox::Situation;
 use kinds::given::Given;
 use kinds::kind::Kind;
-use kinds::maps::{Kpa, MapData};
+use kinds::maps::{Kpa, MapData, Maps};
 
 pub(crate) fn report(rt: &HostRuntime) -> anyhow::Result<()> {
     println!(rt; "shift maps")?;
@@ -44,7 +44,7 @@ fn node(
     match Situation::new(0, 1, 20) {
         Ok(s) => println!(rt;
             "  {name} {first}, {second}, {third}: {} kPa",
-            <kinds::maps::Maps as Kind>::work_out(data, s, first, second, third)
+            Maps::work_out(data, s, first, second, third)
         )?,
         Err(refusal) => refused(rt, refusal)?,
     }
@@ -57,7 +57,7 @@ fn number(rt: &HostRuntime, number: i32) -> anyhow::Result<()> {
         second: false,
         third: false,
     };
-    let answer = if <kinds::maps::Maps as Kind>::fits(
+    let answer = if Maps::fits(
         MapData {
             code: Code::Number.number(),
             number,
@@ -73,11 +73,11 @@ fn number(rt: &HostRuntime, number: i32) -> anyhow::Result<()> {
 }
 
 fn bytes(rt: &HostRuntime, number: i32) -> anyhow::Result<()> {
-    let (byte, word) = <kinds::maps::Maps as Kind>::to_bytes(MapData {
+    let (byte, word) = Maps::to_bytes(MapData {
         code: Code::Number.number(),
         number,
     });
-    let back = <kinds::maps::Maps as Kind>::from_bytes(byte, word);
+    let back = Maps::from_bytes(byte, word);
     println!(rt;
         "  number {number} as bytes: {byte}, {} {} {} {}, and back: {}",
         word[0], word[1], word[2], word[3], back.number

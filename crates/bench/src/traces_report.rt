@@ -1,7 +1,7 @@
 use crate::turned_down::refused;
 use kinds::gearbox::Situation;
 use kinds::kind::Kind;
-use kinds::traces::{TraceData, Worst};
+use kinds::traces::{TraceData, Traces, Worst};
 
 pub(crate) fn report(rt: &HostRuntime) -> anyhow::Result<()> {
     println!(rt; "fault traces")?;
@@ -34,8 +34,8 @@ fn worst(rt: &HostRuntime, data: TraceData, kid: Worst) -> anyhow::Result<()> {
     )?;
     match Situation::new(0, 1, 20) {
         Ok(s) => {
-            let blank = <kinds::traces::Traces as Kind>::blank();
-            let worst = <kinds::traces::Traces as Kind>::work_out(data, s, kid, blank, blank);
+            let blank = Traces::blank();
+            let worst = Traces::work_out(data, s, kid, blank, blank);
             println!(rt; "severity {}, hour {}", worst.severity, worst.hour)?;
         }
         Err(refusal) => refused(rt, refusal)?,

@@ -5,7 +5,7 @@ mod making;
 mod reading;
 pub mod records;
 mod starting;
-mod step;
+mod one_step;
 mod table;
 mod trails;
 mod walking;

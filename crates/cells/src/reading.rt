@@ -1,5 +1,5 @@
 // What is read of a party.
-ghost use Rattle.std.specs.Prelude.{◌≡◌, ◌≤◌, true, false, MatchOption};
+ghost use Rattle.std.specs.Prelude.{◌≡◌, true, false, MatchOption};
 ghost use Rattle.model.specs.State.{last};
 ghost use Rattle.model.specs.Steps.{between};
 ghost use Rattle.cells.specs.View.{view_of, record_of, parties_of};

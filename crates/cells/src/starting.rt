@@ -1,8 +1,8 @@
 // What an accepted Begin changes of its party's record.
-ghost use Rattle.std.specs.Prelude.{◌≡◌, ◌≤◌, [], if◌then◌else◌};
+ghost use Rattle.std.specs.Prelude.{◌≡◌, if◌then◌else◌};
 ghost use Rattle.model.specs.Begins.{kid_of, started, started_walk};
 ghost use Rattle.model.specs.Entries.{nth};
-ghost use Rattle.model.specs.State.{along, set_run, set_trail, trail_of};
+ghost use Rattle.model.specs.State.{trail_of};
 ghost use Rattle.model.specs.Steps.{between};
 ghost use Rattle.cells.specs.Started.{run_begun, trail_begun};
 ghost use Rattle.cells.specs.View.{view_of, parties_of, SameSizes};

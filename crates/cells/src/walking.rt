@@ -1,7 +1,7 @@
 // Where a walk goes once it has read a node.
-ghost use Rattle.std.specs.Prelude.{◌≡◌, ◌≤◌, if◌then◌else◌};
+ghost use Rattle.std.specs.Prelude.{◌≡◌, if◌then◌else◌};
 ghost use Rattle.model.specs.Checks.{is_idle};
-ghost use Rattle.model.specs.State.{shorter, trail_of};
+ghost use Rattle.model.specs.State.{trail_of};
 ghost use Rattle.model.specs.Steps.{between};
 ghost use Rattle.model.specs.Walks.{resumes};
 ghost use Rattle.cells.specs.View.{view_of, parties_of, SameSizes};

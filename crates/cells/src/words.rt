@@ -1,5 +1,5 @@
 // One shared word read, and one written.
-ghost use Rattle.std.specs.Prelude.{◌≡◌, ◌-◌, ◌≤◌, true, cond, length, Some, None};
+ghost use Rattle.std.specs.Prelude.{◌≡◌, ◌-◌, ◌≤◌, true, length};
 ghost use Rattle.model.specs.Entries.{nth};
 ghost use Rattle.model.specs.State.{kid_at, put_kid, set_count, set_lock, set_kid, set_inbox, set_tray};
 ghost use Rattle.model.specs.Steps.{loaded, written, data_written};

@@ -14,7 +14,7 @@ use Rattle.kinds.specs.declared.given.Given.{Given}
 use Rattle.kinds.specs.declared.maps.MapData.{MapData}
 use Rattle.kinds.specs.declared.traces.TraceData.{TraceData}
 use Rattle.kinds.specs.declared.traces.Worst.{Worst}
-use Rattle.figures.specs.Answers.{answersFrom}
+use Rattle.figures.specs.Answers.{answers_from}
 
 -- a figure: which numbers the definitions give, and which they should
 pub record Figure : Type 1 where
@@ -31,7 +31,7 @@ EachHolds (figure ∷ figures) = Holds figure × EachHolds figures
 
 -- the numbers that an order of size m answers a party first, where it may be made
 abbrev pub answering : (ℕ → ℕ) → ℕ → ℕ → Type 0 → ℕ → ℕ → List ℤ → Type 0
-answering shown m stride Fits party count given = SizeFits m × Fits × (given ≡ map pos (answersFrom shown m stride (start_place m party) count))
+answering shown m stride Fits party count given = SizeFits m × Fits × (given ≡ map pos (answers_from shown m stride (start_place m party) count))
 
 -- the number of the refusal that a stride order of size m meets
 abbrev pub refusing : ℕ → ℕ → List ℤ → Type 0

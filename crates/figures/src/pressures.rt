@@ -1,4 +1,4 @@
-ghost use Rattle.std.specs.Prelude.{◌≡◌, ◌+◌, ◌*◌, true, pos, ◌≢◌};
+ghost use Rattle.std.specs.Prelude.{◌≡◌, ◌*◌, true, pos, ◌≢◌};
 ghost use Rattle.kinds.specs.Limits.{between, smallest, largest};
 ghost use Rattle.kinds.specs.Maps.{limited, exactly};
 ghost use Rattle.kinds.specs.declared.gearbox.Situation.{Situation};
@@ -7,7 +7,7 @@ ghost use Rattle.figures.specs.Pressures.{base_pressure, frost, line_pressure, O
 use kinds::codes::Code;
 use kinds::gearbox::Situation;
 use kinds::kind::Kind;
-use kinds::maps::{Kpa, MapData};
+use kinds::maps::{Kpa, MapData, Maps};
 
 // The line pressure, by a shift map of fifteen nodes: the range chooses the base, frost adds and the gear takes off,
 // and the result is held between 400 and 1800 kPa. What it gives in one range it never gives in the other.
@@ -60,7 +60,7 @@ fn sixteen_gears(s: Situation) -> Kpa
 fn number(n: i32, s: Situation) -> Kpa
     ensures { between smallest largest n ≡ true → result ≡ n }
 {
-    <kinds::maps::Maps as Kind>::work_out(
+    Maps::work_out(
         MapData {
             code: Code::Number.number(),
             number: n,
@@ -76,7 +76,7 @@ fn number(n: i32, s: Situation) -> Kpa
 fn node(code: Code, s: Situation, first: Kpa, second: Kpa, third: Kpa) -> Kpa
     ensures { result ≡ limited (exactly code (pos 0) s first second third) }
 {
-    <kinds::maps::Maps as Kind>::work_out(
+    Maps::work_out(
         MapData {
             code: code.number(),
             number: 0,

@@ -2,8 +2,8 @@
 use kinds::gearbox::Situation;
 use kinds::given::Given;
 use kinds::kind::Kind;
-use kinds::maps::{Kpa, MapData};
-use kinds::traces::{TraceData, Worst};
+use kinds::maps::{Kpa, MapData, Maps};
+use kinds::traces::{TraceData, Traces, Worst};
 use orders::card::Card;
 use orders::order::Order;
 use orders::stride::Stride;
@@ -62,13 +62,7 @@ fn worths(rt: HostRuntime) -> Result<(), Fail> {
     let s = Situation::new(0, 3, -7)?;
     for (code, number, first, second, third, expected) in WORTHS {
         assert_eq!(rt;
-            <kinds::maps::Maps as Kind>::work_out(
-                MapData { code, number },
-                s,
-                first,
-                second,
-                third
-            ),
+            Maps::work_out(MapData { code, number }, s, first, second, third),
             expected
         );
     }
@@ -101,18 +95,15 @@ fn fits(rt: HostRuntime) {
             second: given[1],
             third: given[2],
         };
-        assert_eq!(rt;
-            <kinds::maps::Maps as Kind>::fits(MapData { code, number }, kids),
-            expected
-        );
+        assert_eq!(rt; Maps::fits(MapData { code, number }, kids), expected);
     }
 }
 
 #[test]
 fn traces(rt: HostRuntime) -> Result<(), Fail> {
     let s = Situation::new(1, 16, 150)?;
-    let none = <kinds::traces::Traces as Kind>::blank();
-    let edge = <kinds::traces::Traces as Kind>::work_out(
+    let none = Traces::blank();
+    let edge = Traces::work_out(
         TraceData {
             severity: 9,
             hour: 2_000_000,
@@ -123,7 +114,7 @@ fn traces(rt: HostRuntime) -> Result<(), Fail> {
         none,
     );
     assert!(rt; edge.severity == 9 && edge.hour == 2_000_000);
-    let late = <kinds::traces::Traces as Kind>::work_out(
+    let late = Traces::work_out(
         TraceData {
             severity: 9,
             hour: 2_000_001,
@@ -138,7 +129,7 @@ fn traces(rt: HostRuntime) -> Result<(), Fail> {
         severity: 7,
         hour: 8,
     };
-    let split = <kinds::traces::Traces as Kind>::work_out(
+    let split = Traces::work_out(
         TraceData {
             severity: 1,
             hour: 9,

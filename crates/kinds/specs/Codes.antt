@@ -21,13 +21,13 @@ code_number Held = 25
 abbrev pub listed : List Code
 listed = Number ∷ Range ∷ Gear ∷ Temperature ∷ Negated ∷ Sum ∷ Difference ∷ Smaller ∷ Larger ∷ Scaled ∷ Choose ∷ Held ∷ []
 
-abbrev pub first_of : List Code → ℕ → Option Code
-first_of [] n = None
-first_of (code ∷ codes) n = cond (n == code_number code) (Some code) (first_of codes n)
+abbrev pub first_with_number : List Code → ℕ → Option Code
+first_with_number [] n = None
+first_with_number (code ∷ codes) n = cond (n == code_number code) (Some code) (first_with_number codes n)
 
 -- the listed code of a number, if it has one
 abbrev pub code_of : ℕ → Option Code
-code_of n = first_of listed n
+code_of n = first_with_number listed n
 
 -- how many kids the codes 0 to 31 take
 abbrev pub kids_table : List ℕ

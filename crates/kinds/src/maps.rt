@@ -1,4 +1,4 @@
-ghost use Rattle.std.specs.Prelude.{◌≡◌, ℕ, ◌<◌, pos, ◌+ℤ◌, ◌-ℤ◌, ◌*ℤ◌, if◌then◌else◌, Some, int_div};
+ghost use Rattle.std.specs.Prelude.{◌≡◌, ◌<◌, pos, ◌+ℤ◌, ◌-ℤ◌, ◌*ℤ◌, if◌then◌else◌, Some, int_div};
 ghost use Rattle.std.proofs.Common.{ap, ◌∙◌, rules};
 ghost use Rattle.kinds.specs.Situations.{range_number};
 ghost use Rattle.kinds.specs.Maps.{number_fits, exactly, limited, is_zero, worth_as, map_fits, map_worth, map_bytes, map_from, MapStorable};
@@ -90,7 +90,7 @@ fn worth_of(code: Code, number: i32, s: Situation, a: Kpa, b: Kpa, c: Kpa) -> Kp
     if number_fits(code, number) {
         limit(exact(code, number, s, a, b, c))
     } else {
-        <Maps as Kind>::blank()
+        Maps::blank()
     }
 }
 

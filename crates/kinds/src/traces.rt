@@ -1,4 +1,4 @@
-ghost use Rattle.std.specs.Prelude.{◌≡◌, ℕ, ◌<◌, if◌then◌else◌};
+ghost use Rattle.std.specs.Prelude.{◌≡◌, ◌<◌, if◌then◌else◌};
 ghost use Rattle.std.proofs.Common.{ap, rules};
 ghost use Rattle.kinds.specs.Traces.{trace_fits, no_trace, worst_of, trace_worth, trace_bytes, trace_from, TraceStorable};
 ghost use Rattle.kinds.specs.FirstKids.{first_kids};

@@ -33,10 +33,10 @@ module _ {D : Type 0} where
   give_after a s p v Second = give_third a s p v
   give_after a s p v Third = made a s p v
 
-  abbrev pub at_Read_tray : Tray → Job D → Running D
-  at_Read_tray Closed j = Works j LookForNode
-  at_Read_tray Open j = Works j LookForNode
-  at_Read_tray (Holding v) j = Works j (CloseTray v)
+  abbrev pub at_ReadTray : Tray → Job D → Running D
+  at_ReadTray Closed j = Works j LookForNode
+  at_ReadTray Open j = Works j LookForNode
+  at_ReadTray (Holding v) j = Works j (CloseTray v)
 
   abbrev pub no_taker : Job D → ℕ → Running D
   no_taker (Makes a) n = Works (Makes a) (KeepForOneself n)
@@ -45,12 +45,12 @@ module _ {D : Type 0} where
   abbrev pub own_tray : Job D → Store D → ℕ → ℕ → Store D
   own_tray j s p n = cond (is_open (s.tray p)) (set_run (set_tray s p (Holding n)) p (Works j (CloseTray n))) (set_run s p (Works j (GiveBack n)))
 
-  abbrev pub let_go : Job D → Store D → ℕ → ℕ → Store D
-  let_go j s p n = set_run (set_count s n 0) p (back j)
+  abbrev pub let_go_at : Job D → Store D → ℕ → ℕ → Store D
+  let_go_at j s p n = set_run (set_count s n 0) p (back j)
 
   abbrev pub self_picked : Job D → Store D → ℕ → ℕ → Store D
   self_picked (Makes a) s p n = own_tray (Makes a) s p n
-  self_picked Sweeps s p n = let_go Sweeps s p n
+  self_picked Sweeps s p n = let_go_at Sweeps s p n
 
   abbrev pub writes : Job D → Store D → ℕ → ℕ → Store D
   writes (Makes a) s p v = give_first a s p v
@@ -68,7 +68,7 @@ module _ {D : Type 0} where
 
   abbrev pub place_step : Place → Job D → Store D → ℕ → ℕ → Store D
   place_step OpenTray j s p x = set_run (set_tray s p Open) p (Works j ReadTray)
-  place_step ReadTray j s p x = set_run s p (at_Read_tray (s.tray p) j)
+  place_step ReadTray j s p x = set_run s p (at_ReadTray (s.tray p) j)
   place_step LookForNode j s p x = cond (eqb (s.count x) 0) (set_run s p (Works j (LockNode x))) (set_run s p (back j))
   place_step (LockNode n) j s p x = cond (eqb (s.lock n) 0) (set_run (set_lock s n p) p (Works j (Recheck n))) (set_run s p (back j))
   place_step (Recheck n) j s p x = cond (eqb (s.count n) 0) (set_run s p (Works j (ReadKid n First))) (set_run s p (Works j (UnlockAndGoBack n)))
@@ -84,7 +84,7 @@ module _ {D : Type 0} where
       cond (eqb x p) (self_picked j s p n)
       (cond (is_open (s.tray x)) (set_run (set_tray s x (Holding n)) p (back j)) (set_run s p (no_taker j n)))
   place_step (KeepForOneself n) j s p x = own_tray j s p n
-  place_step (GiveBack n) j s p x = let_go j s p n
+  place_step (GiveBack n) j s p x = let_go_at j s p n
   place_step (CloseTray v) j s p x = set_run (set_tray s p Closed) p (Works j (WriteData v))
   place_step (WriteData v) j s p x = writes j s p v
   place_step (CountKid v k) j s p x = gives j s p v k

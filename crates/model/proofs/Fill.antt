@@ -93,8 +93,8 @@ module _ {D : Type 0} (N M : ℕ) (s : Store D) (I : Inv N M s) (p : ℕ) (a : 1
     from_after Second B = from_third_lem B
     from_after Third B = to_made B
 
-  pub at_Write_data : (x : Plan D) (v y : ℕ) → s.run p ≡ Works (Makes x) (WriteData v) → 1 ≤ x.slot → Inv N M (place_step (WriteData v) (Makes x) s p y)
-  at_Write_data x v y e i =
+  pub at_WriteData : (x : Plan D) (v y : ℕ) → s.run p ≡ Works (Makes x) (WriteData v) → 1 ≤ x.slot → Inv N M (place_step (WriteData v) (Makes x) s p y)
+  at_WriteData x v y e i =
       let g = good N M s I p a b (Makes x) (WriteData v) e in
       from_first_lem s x v (record {
         same_run = refl;
@@ -115,8 +115,8 @@ module _ {D : Type 0} (N M : ℕ) (s : Store D) (I : Inv N M s) (p : ℕ) (a : 1
         into = i;
       })
 
-  pub at_Count_kid : (x : Plan D) (v : ℕ) (k : Kid) (y : ℕ) → s.run p ≡ Works (Makes x) (CountKid v k) → Inv N M (place_step (CountKid v k) (Makes x) s p y)
-  at_Count_kid x v k y e =
+  pub at_CountKid : (x : Plan D) (v : ℕ) (k : Kid) (y : ℕ) → s.run p ≡ Works (Makes x) (CountKid v k) → Inv N M (place_step (CountKid v k) (Makes x) s p y)
+  at_CountKid x v k y e =
       let g = good N M s I p a b (Makes x) (CountKid v k) e in
       let kz = g.2.1 in
       let w = s.slot p (kid_at x.kids k) in
@@ -135,8 +135,8 @@ module _ {D : Type 0} (N M : ℕ) (s : Store D) (I : Inv N M s) (p : ℕ) (a : 1
       m (λ d _. omega (arith, carry_is (reliance_at (LinkKid v k w)) m, ap (λ r. carry (reliance r) m) e, carry_is (reliance_at (CountKid v k)) m, is_other w m (λ y. d (sym y)), is_other 0 m (omega arith))) h)
       (record { within = g.0.within; lock_is = λ z. absurd (z refl); empty_is = λ z. absurd (z refl); one_is = λ z. upd_other s.count w v (s.count w + 1) ne ∙ v1; bare = g.0.bare; pend_is = λ z. absurd (z refl); put_is = λ _. refl; held_is = λ z. absurd (z refl); none_given = g.0.none_given; given = g.0.given }, g.1, ((g.2.0, w1), kz))
 
-  pub at_Link_kid : (x : Plan D) (v : ℕ) (k : Kid) (w y : ℕ) → s.run p ≡ Works (Makes x) (LinkKid v k w) → 1 ≤ x.slot → Inv N M (place_step (LinkKid v k w) (Makes x) s p y)
-  at_Link_kid x v k w y e i =
+  pub at_LinkKid : (x : Plan D) (v : ℕ) (k : Kid) (w y : ℕ) → s.run p ≡ Works (Makes x) (LinkKid v k w) → 1 ≤ x.slot → Inv N M (place_step (LinkKid v k w) (Makes x) s p y)
+  at_LinkKid x v k w y e i =
       let g = good N M s I p a b (Makes x) (LinkKid v k w) e in
       let v1 : 1 ≤ v = g.2.0.0 in
       let wz : w ≢ 0 = (let h = g.2.0.1 in omega arith) in

@@ -17,7 +17,7 @@ use Rattle.model.specs.Setting.{Setting}
 use Rattle.model.specs.Runs.{System, Event, moved_as, Steps, Moves, begin_refused, call_begun, walk_begun, turn_refused, turn, walk_turn_refused, walk_turn}
 use Rattle.model.specs.Opened.{WrittenSoFar, New}
 use Rattle.model.specs.Existing.{CanExist, new, moved, ReachedDataFits}
-use Rattle.model.proofs.Explicit.{is_open, back, made, give_first, give_second, give_third, give_after, at_Read_tray, own_tray, place_step, read_on_at, down_to, turn_at}
+use Rattle.model.proofs.Explicit.{is_open, back, made, give_first, give_second, give_third, give_after, at_ReadTray, own_tray, place_step, read_on_at, down_to, turn_at}
 use Rattle.model.proofs.Sums.{upd_same, upd_other}
 use Rattle.model.proofs.Refs.{carry_one}
 use Rattle.model.proofs.Frames.{upd_all, alone_refs}
@@ -471,9 +471,9 @@ module _ {D : Type 0} (suits : D → Given → Bool) (N M : ℕ) (s : Store D) (
 
   place_after : (x : ℕ) (c : Place) (j : Job D) → s.run p ≡ Works j c → Fine suits info (Works j c) → After (data_at (Works j c) info) (place_step c j s p x)
   place_after x OpenTray j e h = to (set_tray s p Open) (Works j ReadTray) info (near (set_tray s p Open) refl refl refl refl) (on j OpenTray ReadTray h (λ _. tt))
-  place_after x ReadTray j e h = to s (at_Read_tray (s.tray p) j) info as_is (read (s.tray p))
+  place_after x ReadTray j e h = to s (at_ReadTray (s.tray p) j) info as_is (read (s.tray p))
     where
-      read : (t : Tray) → Fine suits info (at_Read_tray t j)
+      read : (t : Tray) → Fine suits info (at_ReadTray t j)
       read Closed = on j ReadTray LookForNode h (λ _. tt)
       read Open = on j ReadTray LookForNode h (λ _. tt)
       read (Holding v) = on j ReadTray (CloseTray v) h (λ _. tt)

@@ -13,7 +13,7 @@ use Rattle.model.specs.Setting.{Setting}
 use Rattle.model.specs.Plain.{Plain, Happens, makes, sweeps_nothing, sweeps, OutOfReach, put_slot, put_node, kid_from, kids_from}
 use Rattle.model.specs.Runs.{System}
 use Rattle.model.specs.Opened.{Agrees, WrittenSoFar}
-use Rattle.model.proofs.Explicit.{is_open, back, made, give_first, give_second, give_third, give_after, at_Read_tray, own_tray, place_step}
+use Rattle.model.proofs.Explicit.{is_open, back, made, give_first, give_second, give_third, give_after, at_ReadTray, own_tray, place_step}
 use Rattle.model.proofs.Sums.{upd_same, upd_other}
 use Rattle.model.proofs.Make.{good, position_same, position_pos, position_low}
 use Rattle.model.proofs.Stays.{out_one}
@@ -212,7 +212,7 @@ module _ {D W A B : Type 0} (X : Setting D W A B) (F : System D W A B) (t : Plai
     place_deed x OpenTray j e h dt = plainly_on j (set_tray F.store p Open) ReadTray (λ _. tt) refl refl
     place_deed x ReadTray j e h dt = read (F.store.tray p)
       where
-        read : (v : Tray) → Deed j StillRunning (set_run F.store p (at_Read_tray v j)) F.info
+        read : (v : Tray) → Deed j StillRunning (set_run F.store p (at_ReadTray v j)) F.info
         read Closed = plainly_on j F.store LookForNode (λ _. tt) refl refl
         read Open = plainly_on j F.store LookForNode (λ _. tt) refl refl
         read (Holding v) = plainly_on j F.store (CloseTray v) (λ _. tt) refl refl

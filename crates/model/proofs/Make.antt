@@ -6,7 +6,7 @@ use Rattle.model.specs.Types.{Kid, First, Second, Third, Kids, Tray, Closed, Ope
 use Rattle.model.specs.State.{position, kid_at, put_kid, Store, set_count, set_lock, set_kid, set_tray, set_run}
 use Rattle.model.specs.Steps.{after_kid}
 use Rattle.model.specs.Inv.{Reliance, relies, none, reliance_at, reliance, needs_job, tray_node, carry, Local, Own, FitPlace, FitJob, LocalOf, Good, Bare, Inv}
-use Rattle.model.proofs.Explicit.{is_open, back, at_Read_tray, place_step}
+use Rattle.model.proofs.Explicit.{is_open, back, at_ReadTray, place_step}
 use Rattle.model.proofs.Sums.{upd_same, upd_other, is_same, is_other}
 use Rattle.model.proofs.Refs.{carried_at, carry_one, carry_other}
 use Rattle.model.proofs.Frames.{upd_all, alone_locked, alone_refs, quiet_step, kid_step, tray_step, count_step, take_step, free_step}
@@ -133,14 +133,14 @@ module _ {D : Type 0} (N M : ℕ) (s : Store D) (I : Inv N M s) (p : ℕ) (a : 1
         (back_good s refl refl)
 
   -- LookForNode reads the count of the node that the order picks
-  pub at_Look_for_node : (j : Job D) (x : ℕ) → s.run p ≡ Works j LookForNode → 1 ≤ x → x ≤ M → FitJob j (LockNode x) → Inv N M (place_step LookForNode j s p x)
-  at_Look_for_node j x e h1 h2 f =
+  pub at_LookForNode : (j : Job D) (x : ℕ) → s.run p ≡ Works j LookForNode → 1 ≤ x → x ≤ M → FitJob j (LockNode x) → Inv N M (place_step LookForNode j s p x)
+  at_LookForNode j x e h1 h2 f =
       cond_both (eqb (s.count x) 0) (set_run s p (Works j (LockNode x))) (set_run s p (back j)) (Inv N M)
       (λ z. quiet j LookForNode e (LockNode x) refl (λ m. refl) (plain M s.count s.lock s.kids (s.tray p) (s.slot p) p x 0 0 0 0 0 0 (needs_job j).wants h2 (λ z. absurd (z refl)) (λ z. absurd (z refl)) (λ z. absurd (z refl)) (λ k y z. absurd (omega arith))) h1 f)
       (λ z. to_back j LookForNode e refl (λ m. refl))
 
-  pub at_Lock_node : (j : Job D) (n x : ℕ) → s.run p ≡ Works j (LockNode n) → FitJob j (Recheck n) → Inv N M (place_step (LockNode n) j s p x)
-  at_Lock_node j n x e f =
+  pub at_LockNode : (j : Job D) (n x : ℕ) → s.run p ≡ Works j (LockNode n) → FitJob j (Recheck n) → Inv N M (place_step (LockNode n) j s p x)
+  at_LockNode j n x e f =
       let g = good j (LockNode n) e in
       cond_both (eqb (s.lock n) 0) (set_run (set_lock s n p) p (Works j (Recheck n))) (set_run s p (back j)) (Inv N M)
       (λ z. take_step N M s I p n (Works j (Recheck n)) a b g.2.0 (eqb-true (s.lock n) 0 z) refl (ap (λ t. (reliance t).locked) e)
@@ -156,8 +156,8 @@ module _ {D : Type 0} (N M : ℕ) (s : Store D) (I : Inv N M s) (p : ℕ) (a : 1
       (λ z. quiet j (Recheck n) e (ReadKid n First) refl (λ m. refl) (plain M s.count s.lock s.kids (s.tray p) (s.slot p) p n n n 0 0 1 1 (needs_job j).wants g.0.within (λ _. l) (λ _. eqb-true (s.count n) 0 z) (λ z. absurd (z refl)) (λ k y z. absurd (omega arith))) g.2.0 f)
       (λ z. quiet j (Recheck n) e (UnlockAndGoBack n) refl (λ m. refl) (plain M s.count s.lock s.kids (s.tray p) (s.slot p) p n n 0 0 0 0 0 (needs_job j).wants g.0.within (λ _. l) (λ z. absurd (z refl)) (λ z. absurd (z refl)) (λ k y z. absurd (omega arith))) g.2.0 f')
 
-  pub at_Unlock_and_go_back : (j : Job D) (n x : ℕ) → s.run p ≡ Works j (UnlockAndGoBack n) → Inv N M (place_step (UnlockAndGoBack n) j s p x)
-  at_Unlock_and_go_back j n x e =
+  pub at_UnlockAndGoBack : (j : Job D) (n x : ℕ) → s.run p ≡ Works j (UnlockAndGoBack n) → Inv N M (place_step (UnlockAndGoBack n) j s p x)
+  at_UnlockAndGoBack j n x e =
       let g = good j (UnlockAndGoBack n) e in
       free_step N M s I p n (back j) a b g.2.0 (ap (λ t. (reliance t).locked) e) (ap (λ t. t.locked) (back_claim j (UnlockAndGoBack n) e))
       (λ m x. ap (λ t. carry (reliance t) m) e ∙ carry_is (reliance_at (UnlockAndGoBack n)) m ∙ sym (carry_is none m) ∙ ap (λ t. carry t m) (sym (back_claim j (UnlockAndGoBack n) e)))
@@ -168,8 +168,8 @@ module _ {D : Type 0} (N M : ℕ) (s : Store D) (I : Inv N M s) (p : ℕ) (a : 1
   cleared t n k x w h1 h2 h3 h4 h5 = plain M t.count t.lock t.kids (t.tray p) (t.slot p) p n n n 0 x 1 (suc (position k)) w h1 (λ _. h2) (λ _. h3) (λ z. absurd (z refl))
       (λ i u v. elim (cases_eq (position i) (position k)) [ inl d ↦ position_same (λ g. kid_at (t.kids n) g ≡ 0) i k d h5 | inr d ↦ h4 i (omega arith) ])
 
-  pub at_Read_kid : (j : Job D) (n : ℕ) (k : Kid) (x : ℕ) → s.run p ≡ Works j (ReadKid n k) → FitJob j (ClearKid n k (kid_at (s.kids n) k)) → Inv N M (place_step (ReadKid n k) j s p x)
-  at_Read_kid j n k x e f =
+  pub at_ReadKid : (j : Job D) (n : ℕ) (k : Kid) (x : ℕ) → s.run p ≡ Works j (ReadKid n k) → FitJob j (ClearKid n k (kid_at (s.kids n) k)) → Inv N M (place_step (ReadKid n k) j s p x)
+  at_ReadKid j n k x e f =
       let g = good j (ReadKid n k) e in
       let nz : n ≢ 0 = (let h = g.2.0 in omega arith) in
       let w = kid_at (s.kids n) k in
@@ -193,8 +193,8 @@ module _ {D : Type 0} (N M : ℕ) (s : Store D) (I : Inv N M s) (p : ℕ) (a : 1
       })
       (g.2.0, (let h : w ≢ 0 = eqb-false w 0 z in omega arith)) f)
 
-  pub at_Clear_kid : (j : Job D) (n : ℕ) (k : Kid) (w x : ℕ) → s.run p ≡ Works j (ClearKid n k w) → FitJob j (UncountKid n k w) → Inv N M (place_step (ClearKid n k w) j s p x)
-  at_Clear_kid j n k w x e f =
+  pub at_ClearKid : (j : Job D) (n : ℕ) (k : Kid) (w x : ℕ) → s.run p ≡ Works j (ClearKid n k w) → FitJob j (UncountKid n k w) → Inv N M (place_step (ClearKid n k w) j s p x)
+  at_ClearKid j n k w x e f =
       let g = good j (ClearKid n k w) e in
       let nz : n ≢ 0 = (let h = g.2.0 in omega arith) in
       let wz : w ≢ 0 = (let h = g.2.0 in omega arith) in
@@ -211,8 +211,8 @@ module _ {D : Type 0} (N M : ℕ) (s : Store D) (I : Inv N M s) (p : ℕ) (a : 1
       )
 
   -- taking 1 off a count that the party has a part in
-  pub at_Uncount_kid : (j : Job D) (n : ℕ) (k : Kid) (w x : ℕ) → s.run p ≡ Works j (UncountKid n k w) → Inv N M (place_step (UncountKid n k w) j s p x)
-  at_Uncount_kid j n k w x e =
+  pub at_UncountKid : (j : Job D) (n : ℕ) (k : Kid) (w x : ℕ) → s.run p ≡ Works j (UncountKid n k w) → Inv N M (place_step (UncountKid n k w) j s p x)
+  at_UncountKid j n k w x e =
       let g = good j (UncountKid n k w) e in
       let nz : n ≢ 0 = (let h = g.2.0 in omega arith) in
       let w1 : 1 ≤ w = g.2.0.1 in
@@ -251,18 +251,18 @@ module _ {D : Type 0} (N M : ℕ) (s : Store D) (I : Inv N M s) (p : ℕ) (a : 1
       (same_carry (Works j (Unlock n)) e (Works j (Offer n)) (λ m. refl))
       (plain M s.count (upd s.lock n 0) s.kids (s.tray p) (s.slot p) p n 0 0 n 0 1 4 (needs_job j).wants g.0.within (λ z. absurd (z refl)) (λ z. absurd (z refl)) g.0.one_is g.0.bare, g.1, (g.2.0, f))
 
-  pub at_Open_tray : (j : Job D) (x : ℕ) → s.run p ≡ Works j OpenTray → FitJob j ReadTray → tray_node (s.tray p) ≡ 0 → Inv N M (place_step OpenTray j s p x)
-  at_Open_tray j x e f z =
+  pub at_OpenTray : (j : Job D) (x : ℕ) → s.run p ≡ Works j OpenTray → FitJob j ReadTray → tray_node (s.tray p) ≡ 0 → Inv N M (place_step OpenTray j s p x)
+  at_OpenTray j x e f z =
       let g = good j OpenTray e in
       tray_step N M s I p p Open (Works j ReadTray) a b a b (inl refl) (sym (ap (λ t. (reliance t).locked) e))
       (λ m h. omega (arith, carry_is none m, ap (λ t. carry (reliance t) m) e, ap (λ t. is t m) z))
       (λ z. absurd (z refl)) (λ v q. (let u : ◌≡◌ {A = ℕ} 0 1 = cc in omega arith))
       (idle_claim (set_tray s p Open) (needs_job j).wants, g.1, (tt, f))
 
-  pub at_Read_tray' : (j : Job D) → s.run p ≡ Works j ReadTray → FitJob j LookForNode → ((v : ℕ) → FitJob j (CloseTray v)) → (t : Tray) → s.tray p ≡ t → Inv N M (set_run s p (at_Read_tray t j))
-  at_Read_tray' j e f f' Closed q = quiet j ReadTray e LookForNode refl (λ m. refl) (idle_claim s (needs_job j).wants) tt f
-  at_Read_tray' j e f f' Open q = quiet j ReadTray e LookForNode refl (λ m. refl) (idle_claim s (needs_job j).wants) tt f
-  at_Read_tray' j e f f' (Holding v) q = quiet j ReadTray e (CloseTray v) refl (λ m. refl)
+  pub at_ReadTray' : (j : Job D) → s.run p ≡ Works j ReadTray → FitJob j LookForNode → ((v : ℕ) → FitJob j (CloseTray v)) → (t : Tray) → s.tray p ≡ t → Inv N M (set_run s p (at_ReadTray t j))
+  at_ReadTray' j e f f' Closed q = quiet j ReadTray e LookForNode refl (λ m. refl) (idle_claim s (needs_job j).wants) tt f
+  at_ReadTray' j e f f' Open q = quiet j ReadTray e LookForNode refl (λ m. refl) (idle_claim s (needs_job j).wants) tt f
+  at_ReadTray' j e f f' (Holding v) q = quiet j ReadTray e (CloseTray v) refl (λ m. refl)
       (record { within = omega arith; lock_is = λ z. absurd (z refl); empty_is = λ z. absurd (z refl); one_is = λ z. absurd (z refl); bare = λ k x y. absurd (omega arith); pend_is = λ z. absurd (z refl); put_is = λ z. absurd (z refl); held_is = λ _. q; none_given = λ k x. absurd (omega arith); given = λ k x. absurd (omega arith) })
       (I.filled p v q) (f' v)
 
@@ -278,8 +278,8 @@ module _ {D : Type 0} (N M : ℕ) (s : Store D) (I : Inv N M s) (p : ℕ) (a : 1
       (λ _. record { is_one = L.one_is (omega arith); no_kids = λ k. L.bare k (position_pos k) (position_low k) })
       (λ v q. subst (λ t. 1 ≤ t) (ap tray_node q) n1) G
 
-  pub at_Give_back : (j : Job D) (n : ℕ) (c : Place) → s.run p ≡ Works j c → reliance_at c ≡ relies n 0 0 n 0 1 4 → 1 ≤ n → Inv N M (set_run (set_count s n 0) p (back j))
-  at_Give_back j n c e ec n1 =
+  pub at_GiveBack : (j : Job D) (n : ℕ) (c : Place) → s.run p ≡ Works j c → reliance_at c ≡ relies n 0 0 n 0 1 4 → 1 ≤ n → Inv N M (set_run (set_count s n 0) p (back j))
+  at_GiveBack j n c e ec n1 =
       let g = good j c e in
       let L : LocalOf M s p (relies n 0 0 n 0 1 4) (needs_job j).wants = subst (λ t. LocalOf M s p t (needs_job j).wants) ec g.0 in
       let er : reliance (s.run p) ≡ relies n 0 0 n 0 1 4 = ap reliance e ∙ ec in
@@ -292,8 +292,8 @@ module _ {D : Type 0} (N M : ℕ) (s : Store D) (I : Inv N M s) (p : ℕ) (a : 1
       m (λ d _. omega (arith, ap (λ t. carry t m) (back_claim j c e), carry_is none m, ap (λ t. carry t m) er, carry_is (relies n 0 0 n 0 1 4) m, is_other n m (λ y. d (sym y)), is_other 0 m (omega arith))) h)
       (back_good j c e (set_count s n 0) refl refl)
 
-  pub at_Close_tray : (j : Job D) (v x : ℕ) → s.run p ≡ Works j (CloseTray v) → FitJob j (WriteData v) → Inv N M (place_step (CloseTray v) j s p x)
-  at_Close_tray j v x e f =
+  pub at_CloseTray : (j : Job D) (v x : ℕ) → s.run p ≡ Works j (CloseTray v) → FitJob j (WriteData v) → Inv N M (place_step (CloseTray v) j s p x)
+  at_CloseTray j v x e f =
       let g = good j (CloseTray v) e in
       let vz : v ≢ 0 = (let h = g.2.0 in omega arith) in
       let t = g.0.held_is vz in

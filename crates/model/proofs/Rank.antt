@@ -451,10 +451,10 @@ module _ {D : Type 0} (N M S : ℕ) (s : Store D) (I : Inv N M s) (p : ℕ) (a :
   hope_pos = omega (arith, sum_to_at N (λ q. due q p + waits s.count (upd s.run p (Works j (LockNode x)) q)) p a b, ap (waits s.count) (upd_same s.run p (Works j (LockNode x))))
 
   -- LookForNode: the pick misses the free node in view, which comes nearer; or it hits it
-  pub rank_Look_for_node : s.run p ≡ Works j LookForNode → ((n : ℕ) → 1 ≤ n → n ≤ M → n ≢ x → nd' n + 1 ≤ nd n) → ((q : ℕ) → q ≢ p → (place_step LookForNode j s p x).run q ≡ s.run q)
+  pub rank_LookForNode : s.run p ≡ Works j LookForNode → ((n : ℕ) → 1 ≤ n → n ≤ M → n ≢ x → nd' n + 1 ≤ nd n) → ((q : ℕ) → q ≢ p → (place_step LookForNode j s p x).run q ≡ s.run q)
       → Waiting N M (suc S) s due nd p 17 (suc r)
       → Waiting N M (suc S) (place_step LookForNode j s p x) due nd' p 34 r ⊎ (((place_step LookForNode j s p x) ≡ set_run s p (Works j (LockNode x))) × Hoping N M S (place_step LookForNode j s p x) due p x r)
-  rank_Look_for_node e near k w =
+  rank_LookForNode e near k w =
       let n = w.0 in
       let F = w.1 in
       let t = place_step LookForNode j s p x in

@@ -11,7 +11,7 @@ use Rattle.model.proofs.Explicit.{is_open, back, own_tray, place_step}
 use Rattle.model.proofs.Sums.{upd_same, upd_other}
 use Rattle.model.proofs.Make.{open_is}
 use Rattle.model.proofs.Rank.{asks_at, give_first_by, after_by, waits, waits_le, waits_one, togo, sum_le, left, fewer}
-use Rattle.model.proofs.RankSteps.{Mid, has, wants, hopes, PlaceRank, mid_served, Turned, turn_waits, turn_hopes, Lock_node_waits, weaken, hope_less, not_open}
+use Rattle.model.proofs.RankSteps.{Mid, has, wants, hopes, PlaceRank, mid_served, Turned, turn_waits, turn_hopes, LockNode_waits, weaken, hope_less, not_open}
 
 -- the rank goes along where what is sought goes along
 module _ {D : Type 0} (N M S P : ℕ) (s t : Store D) (due due' : ℕ → ℕ → ℕ) (nd nd' : ℕ → ℕ) (p r : ℕ) where
@@ -94,7 +94,7 @@ module _ {D : Type 0} (N M S P : ℕ) (s : Store D) (I : Inv N M s) (q : ℕ) (a
   beside_mid y d er (as_it_was et hp) (wants eo w) = wants (et ∙ eo) (weaken N M S (place_step c j s q x) due' nd nd' p (left d) (left d) r r un (omega arith) (turn_waits N M S s I q a b x c j e due due' nd p r T (hp eo) runs low fr (left d) w))
   beside_mid y d er (as_it_was et hp) (hopes n k eo h) =
       let t = place_step c j s q x in
-      let pos = Lock_node_waits N due' t p n (Makes y) pa pb (runs p ne ∙ er ∙ ap (Works (Makes y)) k) in
+      let pos = LockNode_waits N due' t p n (Makes y) pa pb (runs p ne ∙ er ∙ ap (Works (Makes y)) k) in
       elim (turn_hopes N M S s I q a b x c j e due due' nd p r T (hp eo) runs low fr n pos h) [
         | inl w ↦ wants (et ∙ eo) (weaken N M S t due' nd nd' p 34 (left d) r r un (let u : left d ≡ 34 = ap left k in omega arith) w)
         | inr g ↦ hopes n k (et ∙ eo) g.1
@@ -126,7 +126,7 @@ module _ {D : Type 0} (N M S P : ℕ) (s t : Store D) (q : ℕ) (C : Calm s t q)
   calm_mid y d er (has v ev h) = has v (ap (λ f. f p) C.trays ∙ ev) h
   calm_mid y d er (wants eo w) = wants (ap (λ f. f p) C.trays ∙ eo) (w.0, calm_free w.0 w.1, fewer (suc S) (togo N due s.count s.run p) (togo N due t.count t.run p) (nd w.0) (left d) r calm_togo w.2)
   calm_mid y d er (hopes n k eo h) =
-      let pos = Lock_node_waits N due t p n (Makes y) pa pb (C.runs p ne ∙ er ∙ ap (Works (Makes y)) k) in
+      let pos = LockNode_waits N due t p n (Makes y) pa pb (C.runs p ne ∙ er ∙ ap (Works (Makes y)) k) in
       let togo-now = togo N due t.count t.run p in
       let le = calm_togo in
       let te = h.1.1 in

@@ -7,10 +7,10 @@ use Rattle.model.specs.State.{position, kid_at, Store, set_count, set_lock, set_
 use Rattle.model.specs.Steps.{after_kid}
 use Rattle.model.specs.Reach.{Free}
 use Rattle.model.specs.Inv.{Inv}
-use Rattle.model.proofs.Explicit.{is_open, made, give_after, at_Read_tray, own_tray, place_step, give_first, give_second, give_third}
+use Rattle.model.proofs.Explicit.{is_open, made, give_after, at_ReadTray, own_tray, place_step, give_first, give_second, give_third}
 use Rattle.model.proofs.Sums.{upd_same, upd_other, sum_to_at}
 use Rattle.model.proofs.Make.{position_low}
-use Rattle.model.proofs.Rank.{asks_at, zero_stays, unlocked_stays, waits, waits_one, togo, sum_le, taking, togo_le, Waiting, locks_it_or_not, same_due, other_waits, left, Hoping, rank_Look_for_node, NoMore, own_no_more}
+use Rattle.model.proofs.Rank.{asks_at, zero_stays, unlocked_stays, waits, waits_one, togo, sum_le, taking, togo_le, Waiting, locks_it_or_not, same_due, other_waits, left, Hoping, rank_LookForNode, NoMore, own_no_more}
 
 -- steps to ReadTray once the tray holds a node
 abbrev pub served : Place → ℕ
@@ -258,14 +258,14 @@ module _ {D : Type 0} (s : Store D) (p x : ℕ) (y : Plan D) where
   goes_to : (c d : Place) (u : Store D) → u.tray ≡ s.tray → seeks d ≡ true → served d < served c → left d < left_before c → asks_at c ≢ 2 → Next c (set_run u p (Works (Makes y) d))
   goes_to c d u e k ga gb z = stays d (upd_same u.run p (Works (Makes y) d)) (ap (λ f. f p) e) k (λ v _. ga) (λ _. gb) (λ _ i. absurd (z i))
 
-  next_Read_tray : (t : Tray) → s.tray p ≡ t → Next ReadTray (set_run s p (at_Read_tray t (Makes y)))
-  next_Read_tray Closed e = stays LookForNode (upd_same s.run p (Works (Makes y) LookForNode)) refl refl (λ v h. absurd (let u : Closed ≡ Holding v = sym e ∙ h in let w : ◌≡◌ {A = ℕ} 0 1 = cc in omega arith)) (λ h. omega arith) (λ h i. absurd (omega arith))
-  next_Read_tray Open e = stays LookForNode (upd_same s.run p (Works (Makes y) LookForNode)) refl refl (λ v h. absurd (let u : Open ≡ Holding v = sym e ∙ h in let w : ◌≡◌ {A = ℕ} 0 1 = cc in omega arith)) (λ h. omega arith) (λ h i. absurd (omega arith))
-  next_Read_tray (Holding v) e = takes v (upd_same s.run p (Works (Makes y) (CloseTray v)))
+  next_ReadTray : (t : Tray) → s.tray p ≡ t → Next ReadTray (set_run s p (at_ReadTray t (Makes y)))
+  next_ReadTray Closed e = stays LookForNode (upd_same s.run p (Works (Makes y) LookForNode)) refl refl (λ v h. absurd (let u : Closed ≡ Holding v = sym e ∙ h in let w : ◌≡◌ {A = ℕ} 0 1 = cc in omega arith)) (λ h. omega arith) (λ h i. absurd (omega arith))
+  next_ReadTray Open e = stays LookForNode (upd_same s.run p (Works (Makes y) LookForNode)) refl refl (λ v h. absurd (let u : Open ≡ Holding v = sym e ∙ h in let w : ◌≡◌ {A = ℕ} 0 1 = cc in omega arith)) (λ h. omega arith) (λ h i. absurd (omega arith))
+  next_ReadTray (Holding v) e = takes v (upd_same s.run p (Works (Makes y) (CloseTray v)))
 
   next_place : (c : Place) → seeks c ≡ true → Next c (place_step c (Makes y) s p x)
   next_place OpenTray h = absurd (true≢false (sym h))
-  next_place ReadTray h = next_Read_tray (s.tray p) refl
+  next_place ReadTray h = next_ReadTray (s.tray p) refl
   next_place LookForNode h = cond_both (eqb (s.count x) 0) (set_run s p (Works (Makes y) (LockNode x))) (set_run s p (Works (Makes y) ReadTray)) (Next LookForNode) (λ _. goes_to LookForNode (LockNode x) s refl refl (omega arith) (omega arith) (λ z. omega arith)) (λ _. goes_to LookForNode ReadTray s refl refl (omega arith) (omega arith) (λ z. omega arith))
   next_place (LockNode n) h = cond_both (eqb (s.lock n) 0) (set_run (set_lock s n p) p (Works (Makes y) (Recheck n))) (set_run s p (Works (Makes y) ReadTray)) (Next (LockNode n)) (λ _. goes_to (LockNode n) (Recheck n) (set_lock s n p) refl refl (omega arith) (omega arith) (λ z. omega arith)) (λ _. goes_to (LockNode n) ReadTray s refl refl (omega arith) (omega arith) (λ z. omega arith))
   next_place (Recheck n) h = cond_both (eqb (s.count n) 0) (set_run s p (Works (Makes y) (ReadKid n First))) (set_run s p (Works (Makes y) (UnlockAndGoBack n))) (Next (Recheck n)) (λ _. goes_to (Recheck n) (ReadKid n First) s refl refl (omega arith) (omega arith) (λ z. omega arith)) (λ _. goes_to (Recheck n) (UnlockAndGoBack n) s refl refl (omega arith) (omega arith) (λ z. omega arith))
@@ -291,9 +291,9 @@ module _ {D : Type 0} (s : Store D) (p x : ℕ) (y : Plan D) where
   next_place (CountKid v k) h = absurd (true≢false (sym h))
   next_place (LinkKid v k w) h = absurd (true≢false (sym h))
 
-pub Lock_node_waits : {D : Type 0} (N : ℕ) (due : ℕ → ℕ → ℕ) (t : Store D) (p n : ℕ) (j : Job D) → 1 ≤ p → p ≤ N → t.run p ≡ Works j (LockNode n) → 1 ≤ togo N due t.count t.run p
+pub LockNode_waits : {D : Type 0} (N : ℕ) (due : ℕ → ℕ → ℕ) (t : Store D) (p n : ℕ) (j : Job D) → 1 ≤ p → p ≤ N → t.run p ≡ Works j (LockNode n) → 1 ≤ togo N due t.count t.run p
 unfolding togo
-Lock_node_waits N due t p n j a b e = let w : waits t.count (t.run p) ≡ 1 = ap (waits t.count) e in omega (arith, sum_to_at N (λ q. due q p + waits t.count (t.run q)) p a b)
+LockNode_waits N due t p n j a b e = let w : waits t.count (t.run p) ≡ 1 = ap (waits t.count) e in omega (arith, sum_to_at N (λ q. due q p + waits t.count (t.run q)) p a b)
 
 pub weaken : {D : Type 0} (N M S : ℕ) (t : Store D) (due : ℕ → ℕ → ℕ) (nd nd' : ℕ → ℕ) (p L L' r r' : ℕ) → ((n : ℕ) → 1 ≤ n → n ≤ M → nd' n ≡ nd n) → L' + r ≤ L + r' → Waiting N M (suc S) t due nd p L r → Waiting N M (suc S) t due nd' p L' r'
 weaken N M S t due nd nd' p L L' r r' h k w = (w.0, w.1, (let u = h w.0 w.1.0 w.1.1 in let v = w.2 in omega arith))
@@ -318,20 +318,20 @@ module _ {D : Type 0} (N M S P : ℕ) (s : Store D) (I : Inv N M s) (p : ℕ) (a
       λ w. subst (RunRank N M S P t due' nd' p r) (sym er) (seeking N M S P t due' nd' p r d sk (wants (et ∙ eo) (weaken N M S t due' nd nd' p 34 (left d) (suc r) r un (omega arith) w))) in
       done (own_hopes N M S s I p a b x c (Makes y) e due due' nd p (suc r) T (hp eo) runs low fr n q h)
 
-  own_Look_for_node : s.run p ≡ Works (Makes y) LookForNode → (due : ℕ → ℕ → ℕ) → ((n : ℕ) → 1 ≤ n → n ≤ M → n ≢ x → nd' n + 1 ≤ nd n) → ((k : ℕ) → k ≢ p → (place_step LookForNode (Makes y) s p x).run k ≡ s.run k)
+  own_LookForNode : s.run p ≡ Works (Makes y) LookForNode → (due : ℕ → ℕ → ℕ) → ((n : ℕ) → 1 ≤ n → n ≤ M → n ≢ x → nd' n + 1 ≤ nd n) → ((k : ℕ) → k ≢ p → (place_step LookForNode (Makes y) s p x).run k ≡ s.run k)
       → Next s p x y LookForNode (place_step LookForNode (Makes y) s p x) → Mid N M S P s due nd p (suc r) LookForNode → RunRank N M S P (place_step LookForNode (Makes y) s p x) due nd' p r ((place_step LookForNode (Makes y) s p x).run p)
-  own_Look_for_node e due near runs (takes v er) m = subst (RunRank N M S P (place_step LookForNode (Makes y) s p x) due nd' p r) (sym er) (let u = mid_pos N M S P s due nd p (suc r) LookForNode m in omega arith)
-  own_Look_for_node e due near runs (stays d er et sk hs hl hp) (has v ev h) =
+  own_LookForNode e due near runs (takes v er) m = subst (RunRank N M S P (place_step LookForNode (Makes y) s p x) due nd' p r) (sym er) (let u = mid_pos N M S P s due nd p (suc r) LookForNode m in omega arith)
+  own_LookForNode e due near runs (stays d er et sk hs hl hp) (has v ev h) =
       subst (RunRank N M S P (place_step LookForNode (Makes y) s p x) due nd' p r) (sym er) (seeking N M S P (place_step LookForNode (Makes y) s p x) due nd' p r d sk (has v (et ∙ ev) (let u = hs v ev in omega arith)))
-  own_Look_for_node e due near runs (stays d er et sk hs hl hp) (wants eo w) =
+  own_LookForNode e due near runs (stays d er et sk hs hl hp) (wants eo w) =
       let t = place_step LookForNode (Makes y) s p x in
       let l : left d < 35 = hl eo in
-      elim (rank_Look_for_node N M S s I p a b x (Makes y) due nd nd' r e near runs w) [
+      elim (rank_LookForNode N M S s I p a b x (Makes y) due nd nd' r e near runs w) [
         | inl w' ↦ subst (RunRank N M S P t due nd' p r) (sym er) (seeking N M S P t due nd' p r d sk (wants (et ∙ eo) (weaken N M S t due nd' nd' p 34 (left d) r r (λ n _ _. refl) (omega arith) w')))
         | inr h ↦ (let er' : t.run p ≡ Works (Makes y) (LockNode x) = ap (λ u. u.run p) h.0 ∙ upd_same s.run p (Works (Makes y) (LockNode x)) in
             subst (RunRank N M S P t due nd' p r) (sym er') (hopes x refl (et ∙ eo) h.1))
       ]
-  own_Look_for_node e due near runs (stays d er et sk hs hl hp) (hopes n q eo h) = absurd (let u : ◌≡◌ {A = ℕ} 0 1 = cc in omega arith)
+  own_LookForNode e due near runs (stays d er et sk hs hl hp) (hopes n q eo h) = absurd (let u : ◌≡◌ {A = ℕ} 0 1 = cc in omega arith)
 
 start_bound : (S T Q d r : ℕ) → T ≤ Q → d < suc S → 18 * (suc S * (Q + 1)) + 10 ≤ suc r → 18 * (suc S * T + d) + 18 + 9 ≤ r
 start_bound S T Q d r h k b = omega (arith, mul-le-mul_left (suc S) h)
@@ -368,9 +368,9 @@ module _ {D : Type 0} (N M S P : ℕ) (p : ℕ) (y : Plan D) (due : ℕ → ℕ 
   rank_after u v Second h = rank_give_third u v (omega arith)
   rank_after u v Third h = ranked_now (set_slot u p y.slot v) Idle tt
 
-  rank_Open_tray : (s : Store D) → ((k : ℕ) → 1 ≤ k → k ≤ N → due k p < P) → ((n : ℕ) → 1 ≤ n → n ≤ M → nd n < suc S) → ((n : ℕ) × Free M (set_run (set_tray s p Open) p (Works (Makes y) ReadTray)) n) → 18 * (suc S * (N * P + 1)) + 10 ≤ suc r
+  rank_OpenTray : (s : Store D) → ((k : ℕ) → 1 ≤ k → k ≤ N → due k p < P) → ((n : ℕ) → 1 ≤ n → n ≤ M → nd n < suc S) → ((n : ℕ) × Free M (set_run (set_tray s p Open) p (Works (Makes y) ReadTray)) n) → 18 * (suc S * (N * P + 1)) + 10 ≤ suc r
       → RankedNow (set_run (set_tray s p Open) p (Works (Makes y) ReadTray))
-  rank_Open_tray s hd low fr h =
+  rank_OpenTray s hd low fr h =
       let t = set_run (set_tray s p Open) p (Works (Makes y) ReadTray) in
       ranked_now (set_tray s p Open) (Works (Makes y) ReadTray) (wants (upd_same s.tray p Open)
       (fr.0, fr.1, start_bound S (togo N due t.count t.run p) (N * P) (nd fr.0) r (togo_low N P due t p hd) (low fr.0 fr.1.0 fr.1.1) h))
@@ -396,9 +396,9 @@ module _ {D : Type 0} (N M S P : ℕ) (s : Store D) (I : Inv N M s) (p : ℕ) (a
 
   pub own_turn : (c : Place) (due due' : ℕ → ℕ → ℕ) → s.run p ≡ Works (Makes y) c → OwnTurn c due due' → PlaceRank N M S P s due nd p (suc r) c → Goal c due'
   unfolding RankedNow
-  own_turn OpenTray due due' e T h = rank_Open_tray N M S P p y due' nd' r s T.near T.low' T.free h
+  own_turn OpenTray due due' e T h = rank_OpenTray N M S P p y due' nd' r s T.near T.low' T.free h
   own_turn ReadTray due due' e T h = mid_turn ReadTray due due' e T (λ z. omega arith) refl h
-  own_turn LookForNode due due' e T h = subst (Goal LookForNode) (sym (T.same (λ z. omega arith))) (own_Look_for_node N M S P s I p a b x y nd nd' r e due (T.asked refl) T.runs (next_place s p x y LookForNode refl) h)
+  own_turn LookForNode due due' e T h = subst (Goal LookForNode) (sym (T.same (λ z. omega arith))) (own_LookForNode N M S P s I p a b x y nd nd' r e due (T.asked refl) T.runs (next_place s p x y LookForNode refl) h)
   own_turn (LockNode n) due due' e T h = mid_turn (LockNode n) due due' e T (λ z. omega arith) refl h
   own_turn (Recheck n) due due' e T h = mid_turn (Recheck n) due due' e T (λ z. omega arith) refl h
   own_turn (UnlockAndGoBack n) due due' e T h = mid_turn (UnlockAndGoBack n) due due' e T (λ z. omega arith) refl h

@@ -151,13 +151,13 @@ module _ {D : Type 0} (N M : ℕ) (s : Store D) (I : Inv N M s) (Q : Resting N s
   unfolding in_boxes
   boxes_none n z out = zeros N (λ q. is (s.inbox q) n) (λ q a b. elim (is_cases (s.inbox q) n) [ inl e ↦ absurd (out (by_box q a b e.1 z)) | inr e ↦ e.0 ])
 
-  kid_of : (ks : Kids) (n : ℕ) → 1 ≤ occ ks n → (k : Kid) × (kid_at ks k ≡ n)
+  kid_with : (ks : Kids) (n : ℕ) → 1 ≤ occ ks n → (k : Kid) × (kid_at ks k ≡ n)
   unfolding occ
-  kid_of ks n h = elim (is_cases ks.first n) [ inl e ↦ (First, e.1) | inr e ↦ elim (is_cases ks.second n) [ inl f ↦ (Second, f.1) | inr f ↦ elim (is_cases ks.third n) [ inl g ↦ (Third, g.1) | inr g ↦ absurd (let x = e.0 in let y = f.0 in let z = g.0 in omega arith) ] ] ]
+  kid_with ks n h = elim (is_cases ks.first n) [ inl e ↦ (First, e.1) | inr e ↦ elim (is_cases ks.second n) [ inl f ↦ (Second, f.1) | inr f ↦ elim (is_cases ks.third n) [ inl g ↦ (Third, g.1) | inr g ↦ absurd (let x = e.0 in let y = f.0 in let z = g.0 in omega arith) ] ] ]
 
   parent : (n : ℕ) → 1 ≤ in_kids M s.kids n → (m : ℕ) × (1 ≤ m) × (m ≤ M) × ((k : Kid) × (kid_at (s.kids m) k ≡ n))
   unfolding in_kids
-  parent n h = let r = sum_to_some M (λ m. occ (s.kids m) n) h in (r.0, r.1, r.2, kid_of (s.kids r.0) n r.3)
+  parent n h = let r = sum_to_some M (λ m. occ (s.kids m) n) h in (r.0, r.1, r.2, kid_with (s.kids r.0) n r.3)
 
   climb : (fuel n : ℕ) → 1 ≤ n → n ≤ M → (Reached N s n → ⊥) → sum_to M R.rank < fuel + R.rank n → (m : ℕ) × Free M s m
   climb zero n a b out h = absurd (let u = sum_to_at M R.rank n a b in omega arith)

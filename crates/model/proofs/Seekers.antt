@@ -11,7 +11,7 @@ use Rattle.model.specs.Walks.{Notes, resumes, first_unmarked, gone_up, settled_s
 use Rattle.model.specs.Setting.{Setting}
 use Rattle.model.specs.Runs.{System, Event, Steps, moved_as, Moves, begin_refused, call_begun, walk_begun, turn_refused, turn, walk_turn_refused, walk_turn}
 use Rattle.model.specs.Existing.{CanExist, new, moved}
-use Rattle.model.proofs.Explicit.{is_open, back, made, give_first, give_second, give_third, give_after, at_Read_tray, own_tray, place_step, read_on_at, down_to, turn_at}
+use Rattle.model.proofs.Explicit.{is_open, back, made, give_first, give_second, give_third, give_after, at_ReadTray, own_tray, place_step, read_on_at, down_to, turn_at}
 use Rattle.model.proofs.Sums.{upd_same, upd_other}
 use Rattle.model.proofs.Begins.{accepted_idle}
 use Rattle.model.proofs.Accepted.{turn_passed, walk_turn_passed}
@@ -48,7 +48,7 @@ module _ {D : Type 0} (s : Store D) (p x : ℕ) (O : opens (s.run p) ≡ true �
   seek_back (Makes y) c e h u t = open_run u (Works (Makes y) ReadTray) (λ z. O (ap opens e ∙ h) (ap (λ f. f p) (sym t) ∙ z))
   seek_back Sweeps c e h u t = shut_run u Idle refl
 
-  seek_read : (j : Job D) → s.run p ≡ Works j ReadTray → (t : Tray) → Ajar (set_run s p (at_Read_tray t j))
+  seek_read : (j : Job D) → s.run p ≡ Works j ReadTray → (t : Tray) → Ajar (set_run s p (at_ReadTray t j))
   seek_read j e Closed = seek_to j ReadTray e refl s LookForNode refl
   seek_read j e Open = seek_to j ReadTray e refl s LookForNode refl
   seek_read j e (Holding v) = seek_to j ReadTray e refl s (CloseTray v) refl

@@ -8,7 +8,7 @@ use Rattle.model.specs.Steps.{after_kid}
 use Rattle.model.specs.Reach.{Reached}
 use Rattle.model.specs.Inv.{reliance_at, reliance, needs_job, needs_of, carry, Good, Inv}
 use Rattle.model.specs.Sound.{Ranked, Outside, Into, on_trail}
-use Rattle.model.proofs.Explicit.{is_open, back, made, give_first, give_second, give_third, give_after, at_Read_tray, own_tray, place_step, turn_at}
+use Rattle.model.proofs.Explicit.{is_open, back, made, give_first, give_second, give_third, give_after, at_ReadTray, own_tray, place_step, turn_at}
 use Rattle.model.proofs.Sums.{upd_same, upd_other, is_same}
 use Rattle.model.proofs.Refs.{carried_at, kids_at}
 use Rattle.model.proofs.Make.{good, carry_is}
@@ -36,7 +36,7 @@ pub record Frame {D : Type 0} (N M : ℕ) (s t : Store D) (p : ℕ) : Type 0 whe
   pub runs : (q : ℕ) → q ≢ p → t.run q ≡ s.run q
   pub no_source : (needs_of (t.run p)).source ≡ 0
   pub into : Into (t.run p)
-  pub on_trail_lem : on_trail (t.run p) ≡ true → on_trail (s.run p) ≡ true
+  pub on_trail_before : on_trail (t.run p) ≡ true → on_trail (s.run p) ≡ true
   pub ranked : Outside M s.kids → Ranked s.kids → Ranked t.kids
   pub outside : Outside M s.kids → Outside M t.kids
 
@@ -67,7 +67,7 @@ module _ {D : Type 0} (N M : ℕ) (s : Store D) (I : Inv N M s) (p : ℕ) (a : 1
     trails = E.trails;
     runs = λ q d. upd_other t.run p q r d ∙ ap (λ f. f q) E.runs;
     no_source = ap (λ f. (needs_of f).source) (upd_same t.run p r) ∙ z.0;
-    on_trail_lem = λ h. z.1 (ap on_trail (sym (upd_same t.run p r)) ∙ h);
+    on_trail_before = λ h. z.1 (ap on_trail (sym (upd_same t.run p r)) ∙ h);
     into = subst Into (sym (upd_same t.run p r)) i;
     ranked = E.ranked;
     outside = E.outside;
@@ -88,7 +88,7 @@ module _ {D : Type 0} (N M : ℕ) (s : Store D) (I : Inv N M s) (p : ℕ) (a : 1
     trails = E.trails;
     runs = λ q d. upd_other t.run p q Idle d ∙ ap (λ f. f q) E.runs;
     no_source = ap (λ f. (needs_of f).source) (upd_same t.run p Idle);
-    on_trail_lem = λ h. absurd (true≢false (sym (ap on_trail (sym (upd_same t.run p Idle)) ∙ h)));
+    on_trail_before = λ h. absurd (true≢false (sym (ap on_trail (sym (upd_same t.run p Idle)) ∙ h)));
     into = subst Into (sym (upd_same t.run p Idle)) tt;
     ranked = E.ranked;
     outside = E.outside;
@@ -177,14 +177,14 @@ module _ {D : Type 0} (N M : ℕ) (s : Store D) (I : Inv N M s) (p : ℕ) (a : 1
 
   frame_place : (x : ℕ) (c : Place) (j : Job D) → s.run p ≡ Works j c → Frame N M s (place_step c j s p x) p
   frame_place x OpenTray j e = to (set_tray s p Open) (Works j ReadTray) (near (set_tray s p Open) refl refl refl refl) (job_source j) (job_into j OpenTray ReadTray e)
-  frame_place x ReadTray j e = quiet (at_Read_tray (s.tray p) j) (tray_calm (s.tray p)) (tray_into (s.tray p))
+  frame_place x ReadTray j e = quiet (at_ReadTray (s.tray p) j) (tray_calm (s.tray p)) (tray_into (s.tray p))
     where
-      tray_calm : (t : Tray) → Calm (at_Read_tray t j)
+      tray_calm : (t : Tray) → Calm (at_ReadTray t j)
       tray_calm Closed = job_source j
       tray_calm Open = job_source j
       tray_calm (Holding v) = job_source j
 
-      tray_into : (t : Tray) → Into (at_Read_tray t j)
+      tray_into : (t : Tray) → Into (at_ReadTray t j)
       tray_into Closed = job_into j ReadTray LookForNode e
       tray_into Open = job_into j ReadTray LookForNode e
       tray_into (Holding v) = job_into j ReadTray (CloseTray v) e
@@ -228,7 +228,7 @@ module _ {D : Type 0} (N M : ℕ) (s : Store D) (I : Inv N M s) (p : ℕ) (a : 1
   frame_place x (LinkKid v k w) Sweeps e = absurd (good N M s I p a b Sweeps (LinkKid v k w) e).2.1
 
   frame_at : (info : ℕ → D) (x : ℕ) (r : Running D) → Stands r → s.run p ≡ r → Frame N M s (turn_at r s info p x) p
-  frame_at info x Idle h e = record { kept = λ n r. refl; slots = λ q d. refl; own_slots = λ i z d. refl; trails = refl; runs = λ q d. refl; no_source = ap (λ f. (needs_of f).source) e; into = A; on_trail_lem = λ h. h; ranked = λ o R. R; outside = λ o. o }
+  frame_at info x Idle h e = record { kept = λ n r. refl; slots = λ q d. refl; own_slots = λ i z d. refl; trails = refl; runs = λ q d. refl; no_source = ap (λ f. (needs_of f).source) e; into = A; on_trail_before = λ h. h; ranked = λ o R. R; outside = λ o. o }
   frame_at info x (Reads ReadNothing) h e = quiet (Reads (ReadData (info (last s p)))) (refl, λ _. ap on_trail e) tt
   frame_at info x (Reads (ReadData d)) h e = quiet (Reads (ReadFirst d (s.kids (last s p)).first)) (refl, λ _. ap on_trail e) tt
   frame_at info x (Reads (ReadFirst d i)) h e = quiet (Reads (ReadSecond d i (s.kids (last s p)).second)) (refl, λ _. ap on_trail e) tt

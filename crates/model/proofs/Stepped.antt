@@ -10,7 +10,7 @@ use Rattle.model.specs.Inv.{none, reliance, needs_of, FitJob, Fit, Good, Inv}
 use Rattle.model.specs.Sound.{Into, on_trail, opens, TrailAt, Sound}
 use Rattle.model.specs.Walks.{Notes, resumes, first_unmarked, gone_up, settled_store}
 use Rattle.model.proofs.Explicit
-use Rattle.model.proofs.Explicit.{is_open, back, no_taker, self_picked, give_first, give_second, give_third, give_after, at_Read_tray, place_step, turn_at}
+use Rattle.model.proofs.Explicit.{is_open, back, no_taker, self_picked, give_first, give_second, give_third, give_after, at_ReadTray, place_step, turn_at}
 use Rattle.model.proofs.Sums.{upd_same}
 use Rattle.model.proofs.Frames.{upd_all}
 use Rattle.model.proofs.Make.{good, quiet, to_back}
@@ -73,7 +73,7 @@ module _ {D : Type 0} (W : Type 0) (N M : ℕ) (s : Store D) (info : ℕ → D) 
   not_taken_is a (Makes y) n = ap (λ t. set_run t p (Works (Makes y) (KeepForOneself n))) (nothing_written a)
   not_taken_is a Sweeps n = ap (λ t. set_run t p (Works Sweeps (GiveBack n))) (nothing_written a)
 
-  read_tray_is : (j : Job D) (t : Tray) → decided (TrayOf p) (decide_place ReadTray j (TrayWord t) p x (s.slot p)) ≡ set_run s p (at_Read_tray t j)
+  read_tray_is : (j : Job D) (t : Tray) → decided (TrayOf p) (decide_place ReadTray j (TrayWord t) p x (s.slot p)) ≡ set_run s p (at_ReadTray t j)
   read_tray_is j Closed = refl
   read_tray_is j Open = refl
   read_tray_is j (Holding v) = refl
@@ -232,7 +232,7 @@ module _ {D : Type 0} (N M : ℕ) (s : Store D) (S : Sound N M s) (p : ℕ) (a :
   picks : (x : ℕ) (r : Running D) → s.run p ≡ r → Picked N M x r → Picks N M s S p a b x
   picks x r e h = record { node = λ j u. subst (Picked N M x) (sym e ∙ u) h; party = λ j n u. subst (Picked N M x) (sym e ∙ u) h }
 
-  -- what stepped-is asks of the call, in a sound store
+  -- what stepped_is asks of the call, in a sound store
   pub fit_of : (r : Running D) → s.run p ≡ r → Fit N r
   fit_of r e = (subst (Good N M s p) e (S.inv.parties p a b)).2
 

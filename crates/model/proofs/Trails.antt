@@ -85,7 +85,7 @@ module _ {D : Type 0} (N M : ℕ) (s : Store D) (S : Sound N M s) where
           ])
           (s.trail q) (S.trails q x y));
       standing = λ q x y o. subst (λ f. is_none (f q) ≡ false) (sym F.trails) (S.standing q x y (elim (cases_eq q p) [
-        | inl e ↦ ap (λ k. on_trail (s.run k)) e ∙ F.on_trail_lem (ap (λ k. on_trail (t.run k)) (sym e) ∙ o)
+        | inl e ↦ ap (λ k. on_trail (s.run k)) e ∙ F.on_trail_before (ap (λ k. on_trail (t.run k)) (sym e) ∙ o)
         | inr d ↦ ap on_trail (sym (F.runs q d)) ∙ o
       ]));
     }

@@ -7,7 +7,7 @@ use Rattle.model.specs.State.{kid_at, Store, set_count, set_lock, set_kid, set_i
 use Rattle.model.specs.Steps.{after_kid}
 use Rattle.model.specs.Inv.{Inv}
 use Rattle.model.specs.Sound.{opens, opens_at}
-use Rattle.model.proofs.Explicit.{is_open, back, made, give_first, give_second, give_third, give_after, at_Read_tray, own_tray, place_step, turn_at}
+use Rattle.model.proofs.Explicit.{is_open, back, made, give_first, give_second, give_third, give_after, at_ReadTray, own_tray, place_step, turn_at}
 use Rattle.model.proofs.Sums.{upd_same, upd_other}
 use Rattle.model.proofs.Make.{good}
 use Rattle.model.proofs.Stays.{Stands}
@@ -62,9 +62,9 @@ module _ {D : Type 0} (N M : ℕ) (s : Store D) (I : Inv N M s) (p : ℕ) (a : 1
   shut_place_lem : (x : ℕ) (c : Place) (j : Job D) → s.run p ≡ Works j c → Shuts s (place_step c j s p x) p
   shut_place_lem x OpenTray (Makes y) e = record { others = λ q d z. upd_other s.tray p q Open d ∙ z; own = λ h g. absurd (true≢false (ap opens (sym (upd_same s.run p (Works (Makes y) ReadTray))) ∙ h)) }
   shut_place_lem x OpenTray Sweeps e = absurd (good N M s I p a b Sweeps OpenTray e).2.1
-  shut_place_lem x ReadTray j e = same s (at_Read_tray (s.tray p) j) refl (go (s.tray p))
+  shut_place_lem x ReadTray j e = same s (at_ReadTray (s.tray p) j) refl (go (s.tray p))
     where
-      go : (t : Tray) → opens (at_Read_tray t j) ≡ false → opens (s.run p) ≡ false
+      go : (t : Tray) → opens (at_ReadTray t j) ≡ false → opens (s.run p) ≡ false
       go Closed = on j ReadTray LookForNode e refl
       go Open = on j ReadTray LookForNode e refl
       go (Holding v) = on j ReadTray (CloseTray v) e refl

@@ -10,13 +10,13 @@ use Rattle.model.proofs.Explicit.{is_open, back, own_tray, place_step, turn_at}
 use Rattle.model.proofs.Sums.{upd_same, upd_other, is_same, is_other}
 use Rattle.model.proofs.Refs.{carried_upd, slots_upd, boxes_upd}
 use Rattle.model.proofs.Frames.{upd_all, alone_refs, others_count, others_slot, others_box, bare_count, assemble, quiet_step}
-use Rattle.model.proofs.Make.{open_is, good, idle_claim, back_good, quiet, offered, at_Open_tray, at_Read_tray', at_Look_for_node, at_Lock_node, at_Recheck, at_Unlock_and_go_back, at_Read_kid, at_Clear_kid, at_Uncount_kid, at_Claim, at_Unlock, at_Give_back, at_Close_tray}
-use Rattle.model.proofs.Fill.{no_needs, at_Write_data, at_Count_kid, at_Link_kid, at_drop}
+use Rattle.model.proofs.Make.{open_is, good, idle_claim, back_good, quiet, offered, at_OpenTray, at_ReadTray', at_LookForNode, at_LockNode, at_Recheck, at_UnlockAndGoBack, at_ReadKid, at_ClearKid, at_UncountKid, at_Claim, at_Unlock, at_GiveBack, at_CloseTray}
+use Rattle.model.proofs.Fill.{no_needs, at_WriteData, at_CountKid, at_LinkKid, at_drop}
 use Rattle.model.proofs.Reached.{reached_held}
 
 module _ {D : Type 0} (N M : ℕ) (s : Store D) (I : Inv N M s) (p : ℕ) (a : 1 ≤ p) (b : p ≤ N) where
-  to_Give_back : (j : Job D) (n : ℕ) (c : Place) → s.run p ≡ Works j c → reliance_at c ≡ relies n 0 0 n 0 1 4 → 1 ≤ n → FitJob j (GiveBack n) → Inv N M (set_run s p (Works j (GiveBack n)))
-  to_Give_back j n c e ec n1 f =
+  to_GiveBack : (j : Job D) (n : ℕ) (c : Place) → s.run p ≡ Works j c → reliance_at c ≡ relies n 0 0 n 0 1 4 → 1 ≤ n → FitJob j (GiveBack n) → Inv N M (set_run s p (Works j (GiveBack n)))
+  to_GiveBack j n c e ec n1 f =
       quiet N M s I p a b j c e (GiveBack n) (sym (ap (λ t. t.locked) ec)) (λ m. ap (λ t. is t.one m + is t.other m) ec)
       (subst (λ t. LocalOf M s p t (needs_job j).wants) ec (good N M s I p a b j c e).0) n1 f
 
@@ -28,7 +28,7 @@ module _ {D : Type 0} (N M : ℕ) (s : Store D) (I : Inv N M s) (p : ℕ) (a : 1
         (good N M s I p a b (Makes x) c e).1,
         (n1, tt),
       ))
-      (λ z. to_Give_back (Makes x) n c e ec n1 tt)
+      (λ z. to_GiveBack (Makes x) n c e ec n1 tt)
 
   at_Offer : (j : Job D) (n x : ℕ) → s.run p ≡ Works j (Offer n) → 1 ≤ x → x ≤ N → Inv N M (place_step (Offer n) j s p x)
   at_Offer (Makes y) n x e h1 h2 =
@@ -41,10 +41,10 @@ module _ {D : Type 0} (N M : ℕ) (s : Store D) (I : Inv N M s) (p : ℕ) (a : 1
   at_Offer Sweeps n x e h1 h2 =
       let n1 = (good N M s I p a b Sweeps (Offer n) e).2.0 in
       cond_both (eqb x p) (set_run (set_count s n 0) p Idle) (cond (is_open (s.tray x)) (set_run (set_tray s x (Holding n)) p Idle) (set_run s p (Works Sweeps (GiveBack n)))) (Inv N M)
-      (λ _. at_Give_back N M s I p a b Sweeps n (Offer n) e refl n1)
+      (λ _. at_GiveBack N M s I p a b Sweeps n (Offer n) e refl n1)
       (λ _. cond_both (is_open (s.tray x)) (set_run (set_tray s x (Holding n)) p Idle) (set_run s p (Works Sweeps (GiveBack n))) (Inv N M)
       (λ z. offered N M s I p a b Sweeps n x (Offer n) e refl n1 h1 h2 (open_is (s.tray x) z) Idle refl refl refl (back_good N M s I p a b Sweeps (Offer n) e (set_tray s x (Holding n)) refl refl))
-      (λ z. to_Give_back Sweeps n (Offer n) e refl n1 tt))
+      (λ z. to_GiveBack Sweeps n (Offer n) e refl n1 tt))
 
   -- a step to idle, or on, that changes nothing shared
   pub at_rest : (r : Running D) → reliance (s.run p) ≡ none → reliance r ≡ none → Good N M s p r → Inv N M (set_run s p r)
@@ -118,24 +118,24 @@ module _ {D : Type 0} (N M : ℕ) (s : Store D) (I : Inv N M s) (p : ℕ) (a : 1
     pub slots : (y : Plan D) (c : Place) → s.run p ≡ Works (Makes y) c → 1 ≤ y.slot
 
   place_keeps : (x : ℕ) → Given x → (c : Place) (j : Job D) → s.run p ≡ Works j c → Inv N M (place_step c j s p x)
-  place_keeps x g OpenTray (Makes y) e = at_Open_tray N M s I p a b (Makes y) x e tt (g.shut (Makes y) e)
+  place_keeps x g OpenTray (Makes y) e = at_OpenTray N M s I p a b (Makes y) x e tt (g.shut (Makes y) e)
   place_keeps x g OpenTray Sweeps e = absurd (good N M s I p a b Sweeps OpenTray e).2.1
-  place_keeps x g ReadTray (Makes y) e = at_Read_tray' N M s I p a b (Makes y) e tt (λ v. tt) (s.tray p) refl
+  place_keeps x g ReadTray (Makes y) e = at_ReadTray' N M s I p a b (Makes y) e tt (λ v. tt) (s.tray p) refl
   place_keeps x g ReadTray Sweeps e = absurd (good N M s I p a b Sweeps ReadTray e).2.1
-  place_keeps x g LookForNode (Makes y) e = at_Look_for_node N M s I p a b (Makes y) x e (g.node (Makes y) e).0 (g.node (Makes y) e).1 tt
-  place_keeps x g LookForNode Sweeps e = at_Look_for_node N M s I p a b Sweeps x e (g.node Sweeps e).0 (g.node Sweeps e).1 tt
-  place_keeps x g (LockNode n) (Makes y) e = at_Lock_node N M s I p a b (Makes y) n x e tt
-  place_keeps x g (LockNode n) Sweeps e = at_Lock_node N M s I p a b Sweeps n x e tt
+  place_keeps x g LookForNode (Makes y) e = at_LookForNode N M s I p a b (Makes y) x e (g.node (Makes y) e).0 (g.node (Makes y) e).1 tt
+  place_keeps x g LookForNode Sweeps e = at_LookForNode N M s I p a b Sweeps x e (g.node Sweeps e).0 (g.node Sweeps e).1 tt
+  place_keeps x g (LockNode n) (Makes y) e = at_LockNode N M s I p a b (Makes y) n x e tt
+  place_keeps x g (LockNode n) Sweeps e = at_LockNode N M s I p a b Sweeps n x e tt
   place_keeps x g (Recheck n) (Makes y) e = at_Recheck N M s I p a b (Makes y) n x e tt tt
   place_keeps x g (Recheck n) Sweeps e = at_Recheck N M s I p a b Sweeps n x e tt tt
-  place_keeps x g (UnlockAndGoBack n) (Makes y) e = at_Unlock_and_go_back N M s I p a b (Makes y) n x e
-  place_keeps x g (UnlockAndGoBack n) Sweeps e = at_Unlock_and_go_back N M s I p a b Sweeps n x e
-  place_keeps x g (ReadKid n k) (Makes y) e = at_Read_kid N M s I p a b (Makes y) n k x e tt
-  place_keeps x g (ReadKid n k) Sweeps e = at_Read_kid N M s I p a b Sweeps n k x e tt
-  place_keeps x g (ClearKid n k w) (Makes y) e = at_Clear_kid N M s I p a b (Makes y) n k w x e tt
-  place_keeps x g (ClearKid n k w) Sweeps e = at_Clear_kid N M s I p a b Sweeps n k w x e tt
-  place_keeps x g (UncountKid n k w) (Makes y) e = at_Uncount_kid N M s I p a b (Makes y) n k w x e
-  place_keeps x g (UncountKid n k w) Sweeps e = at_Uncount_kid N M s I p a b Sweeps n k w x e
+  place_keeps x g (UnlockAndGoBack n) (Makes y) e = at_UnlockAndGoBack N M s I p a b (Makes y) n x e
+  place_keeps x g (UnlockAndGoBack n) Sweeps e = at_UnlockAndGoBack N M s I p a b Sweeps n x e
+  place_keeps x g (ReadKid n k) (Makes y) e = at_ReadKid N M s I p a b (Makes y) n k x e tt
+  place_keeps x g (ReadKid n k) Sweeps e = at_ReadKid N M s I p a b Sweeps n k x e tt
+  place_keeps x g (ClearKid n k w) (Makes y) e = at_ClearKid N M s I p a b (Makes y) n k w x e tt
+  place_keeps x g (ClearKid n k w) Sweeps e = at_ClearKid N M s I p a b Sweeps n k w x e tt
+  place_keeps x g (UncountKid n k w) (Makes y) e = at_UncountKid N M s I p a b (Makes y) n k w x e
+  place_keeps x g (UncountKid n k w) Sweeps e = at_UncountKid N M s I p a b Sweeps n k w x e
   place_keeps x g (Claim n) (Makes y) e = at_Claim N M s I p a b (Makes y) n x e tt
   place_keeps x g (Claim n) Sweeps e = at_Claim N M s I p a b Sweeps n x e tt
   place_keeps x g (Unlock n) (Makes y) e = at_Unlock N M s I p a b (Makes y) n x e tt
@@ -144,15 +144,15 @@ module _ {D : Type 0} (N M : ℕ) (s : Store D) (I : Inv N M s) (p : ℕ) (a : 1
   place_keeps x g (Offer n) Sweeps e = at_Offer Sweeps n x e (g.party Sweeps n e).0 (g.party Sweeps n e).1
   place_keeps x g (KeepForOneself n) (Makes y) e = at_own y n (KeepForOneself n) e refl (good N M s I p a b (Makes y) (KeepForOneself n) e).2.0
   place_keeps x g (KeepForOneself n) Sweeps e = absurd (good N M s I p a b Sweeps (KeepForOneself n) e).2.1
-  place_keeps x g (GiveBack n) (Makes y) e = at_Give_back N M s I p a b (Makes y) n (GiveBack n) e refl (good N M s I p a b (Makes y) (GiveBack n) e).2.0
-  place_keeps x g (GiveBack n) Sweeps e = at_Give_back N M s I p a b Sweeps n (GiveBack n) e refl (good N M s I p a b Sweeps (GiveBack n) e).2.0
-  place_keeps x g (CloseTray n) (Makes y) e = at_Close_tray N M s I p a b (Makes y) n x e tt
+  place_keeps x g (GiveBack n) (Makes y) e = at_GiveBack N M s I p a b (Makes y) n (GiveBack n) e refl (good N M s I p a b (Makes y) (GiveBack n) e).2.0
+  place_keeps x g (GiveBack n) Sweeps e = at_GiveBack N M s I p a b Sweeps n (GiveBack n) e refl (good N M s I p a b Sweeps (GiveBack n) e).2.0
+  place_keeps x g (CloseTray n) (Makes y) e = at_CloseTray N M s I p a b (Makes y) n x e tt
   place_keeps x g (CloseTray n) Sweeps e = absurd (good N M s I p a b Sweeps (CloseTray n) e).2.1
-  place_keeps x g (WriteData n) (Makes y) e = at_Write_data N M s I p a b y n x e (g.slots y (WriteData n) e)
+  place_keeps x g (WriteData n) (Makes y) e = at_WriteData N M s I p a b y n x e (g.slots y (WriteData n) e)
   place_keeps x g (WriteData n) Sweeps e = absurd (good N M s I p a b Sweeps (WriteData n) e).2.1
-  place_keeps x g (CountKid v k) (Makes y) e = at_Count_kid N M s I p a b y v k x e
+  place_keeps x g (CountKid v k) (Makes y) e = at_CountKid N M s I p a b y v k x e
   place_keeps x g (CountKid v k) Sweeps e = absurd (good N M s I p a b Sweeps (CountKid v k) e).2.1
-  place_keeps x g (LinkKid v k w) (Makes y) e = at_Link_kid N M s I p a b y v k w x e (g.slots y (LinkKid v k w) e)
+  place_keeps x g (LinkKid v k w) (Makes y) e = at_LinkKid N M s I p a b y v k w x e (g.slots y (LinkKid v k w) e)
   place_keeps x g (LinkKid v k w) Sweeps e = absurd (good N M s I p a b Sweeps (LinkKid v k w) e).2.1
 
   -- a Turn of a call that writes: Reads, Downs and walks change no word that the invariant speaks of

@@ -188,25 +188,25 @@ module _ {D W A B : Type 0} (X : Setting D W A B) where
     abbrev first_view : View D W
     first_view = record { kids = F.store.kids; info = F.info; root = F.store.slot p i; trail = along i (F.store.slot p i) []; run = WalkReads t ReadNothing; notes = record { marks = λ n. false; worths = worths } }
 
-    abbrev walk_begun_lem : System D W A B
-    walk_begun_lem = with_walk X F (started_walk i t F.store p) p worths
+    abbrev walk_begun_system : System D W A B
+    walk_begun_system = with_walk X F (started_walk i t F.store p) p worths
 
-    first_view_lem : view_of X walk_begun_lem p i ≡ first_view
+    first_view_lem : view_of X walk_begun_system p i ≡ first_view
     first_view_lem =
-        let trail_is : walk_begun_lem.store.trail p ≡ along i (F.store.slot p i) [] = upd_same F.store.trail p (along i (F.store.slot p i) []) in
-        let run_is : walk_begun_lem.store.run p ≡ WalkReads t ReadNothing = upd_same F.store.run p (WalkReads t ReadNothing) in
-        let notes_are : walk_begun_lem.notes p ≡ record { marks = λ n. false; worths = worths } = upd_same F.notes p (record { marks = λ n. false; worths = worths }) in
+        let trail_is : walk_begun_system.store.trail p ≡ along i (F.store.slot p i) [] = upd_same F.store.trail p (along i (F.store.slot p i) []) in
+        let run_is : walk_begun_system.store.run p ≡ WalkReads t ReadNothing = upd_same F.store.run p (WalkReads t ReadNothing) in
+        let notes_are : walk_begun_system.notes p ≡ record { marks = λ n. false; worths = worths } = upd_same F.notes p (record { marks = λ n. false; worths = worths }) in
         λ z. record { kids = F.store.kids; info = F.info; root = F.store.slot p i; trail = trail_is z; run = run_is z; notes = notes_are z }
 
-    standing_at_first : StandingIn X walk_begun_lem p i t
+    standing_at_first : StandingIn X walk_begun_system p i t
     standing_at_first = subst (Standing X.worth X.blank X.nodes t i) (sym first_view_lem) (standing_begun X.worth X.blank X.nodes t i F.store.kids F.info (F.store.slot p i) worths)
 
-    spent_at_first : spent X.nodes (view_of X walk_begun_lem p i) ≡ 5
+    spent_at_first : spent X.nodes (view_of X walk_begun_system p i) ≡ 5
     spent_at_first = let none = none_marked X.nodes in let u : spent X.nodes first_view ≡ 5 = omega (arith, none) in ap (spent X.nodes) first_view_lem ∙ u
 
     -- what a walk has set down at its Begin is right
-    pub walk_begins_right : WalkSoFar X walk_begun_lem p i t × PlaceIn X walk_begun_lem p t (walk_begun_lem.store.run p)
-    walk_begins_right = (so_far_of X walk_begun_lem p i t standing_at_first, place_of X walk_begun_lem p i t standing_at_first)
+    pub walk_begins_right : WalkSoFar X walk_begun_system p i t × PlaceIn X walk_begun_system p t (walk_begun_system.store.run p)
+    walk_begins_right = (so_far_of X walk_begun_system p i t standing_at_first, place_of X walk_begun_system p i t standing_at_first)
 
   -- a walk's answer is the plain store's, where that agrees
   pub walk_happens : (F G : System D W A B) → Sound X.parties X.nodes F.store → (p : ℕ) → 1 ≤ p → p ≤ X.parties → (t : Situation) (w : Walk) (s : Plain D) (o : Outcome D W)

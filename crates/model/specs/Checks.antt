@@ -1,5 +1,5 @@
 -- What a Begin and a Turn are refused for, each in the one order in which it is looked at.
-use Rattle.std.specs.Prelude.{ℕ, Bool, true, false, cond, not, ◌&&◌, ◌||◌, ltb, List, [], ◌∷◌, Some, None, Option, ◌==◌, nat_le, nat_lt}
+use Rattle.std.specs.Prelude.{ℕ, Bool, true, false, cond, not, ◌&&◌, ◌||◌, List, [], ◌∷◌, Some, None, Option, ◌==◌, nat_le, nat_lt}
 use Rattle.refusals.specs.declared.Refusal.{Refusal}
 use Rattle.refusals.specs.declared.Refusal.TheVariants.{NoSuchParty, NoSuchSlot, ShortList, DataDoesNotFit, BadSituation, Busy, NothingToTurn, SlotEmpty, SlotFilled, NoTrail, TrailStands}
 use Rattle.kinds.specs.Situations.{in_limits}
@@ -50,7 +50,7 @@ abbrev pub no_receiver : {D : Type 0} → ℕ → Asked D → Bool
 no_receiver N a = elim a [ AsksCall c ↦ elim c [ Hand i q ↦ not (between 1 N q) | Enter i ↦ false | Up ↦ false | Leave ↦ false | Read ↦ false | Down k ↦ false | Keep i ↦ false | Drop i ↦ false | Fetch i ↦ false | Make plan ↦ false | Sweep ↦ false ] | AsksWalk w ↦ false ]
 
 abbrev pub too_short : {D : Type 0} → ℕ → Asked D → Lengths → Bool
-too_short M a l = elim a [ AsksCall c ↦ ltb l.entries M | AsksWalk w ↦ nat_lt l.entries M || (nat_lt l.marks M || nat_lt l.worths M) ]
+too_short M a l = elim a [ AsksCall c ↦ nat_lt l.entries M | AsksWalk w ↦ nat_lt l.entries M || (nat_lt l.marks M || nat_lt l.worths M) ]
 
 module _ {D : Type 0} (suits : D → Given → Bool) where
   -- the faults of a call by its party's slots and trail

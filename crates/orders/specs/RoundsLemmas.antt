@@ -83,9 +83,9 @@ module _ (shown : ℕ → ℕ) (m stride : ℕ) (hm : 1 ≤ m) (hs : 1 ≤ strid
 
   module _ {O : Type 0} (numbers horizon : O → ℕ) (due : O → ℕ → ℕ → ℕ) (old new : O) (p answer : ℕ) (places places' : List ℕ)
       (placed : (q : ℕ) → IsParty q → IsNumber m (place_of places q))
-      (size_is : numbers old ≡ m) (size-stays : numbers new ≡ numbers old) (span_stays : horizon new ≡ horizon old)
-      (due-is : (q n : ℕ) → due old q n ≡ round_due shown m stride (place_of places q) n)
-      (due-is' : (q n : ℕ) → due new q n ≡ round_due shown m stride (place_of places' q) n)
+      (size_is : numbers old ≡ m) (size_stays : numbers new ≡ numbers old) (span_stays : horizon new ≡ horizon old)
+      (due_is : (q n : ℕ) → due old q n ≡ round_due shown m stride (place_of places q) n)
+      (due_is' : (q n : ℕ) → due new q n ≡ round_due shown m stride (place_of places' q) n)
       (moved : IsParty p → places' ≡ slice_set places (p - 1) (next_place m stride (place_of places p)))
       (answered : IsParty p → answer ≡ shown (next_place m stride (place_of places p))) where
     others : IsParty p → (q n : ℕ) → IsParty q → (q ≢ p) → due new q n ≡ due old q n
@@ -93,7 +93,7 @@ module _ (shown : ℕ → ℕ) (m stride : ℕ) (hm : 1 ≤ m) (hs : 1 ≤ strid
         let other' : q - 1 ≡ p - 1 → ⊥ = λ e. other (omega (arith, is, isq)) in
         let kept : place_of places' q ≡ place_of places q =
         ap (λ l. place_of l q) (moved is) ∙ get_or-set_other places (p - 1) (q - 1) (next_place m stride (place_of places p)) 0 other' in
-        due-is' q n ∙ ap (λ a. round_due shown m stride a n) kept ∙ sym (due-is q n)
+        due_is' q n ∙ ap (λ a. round_due shown m stride a n) kept ∙ sym (due_is q n)
 
     own : (is : IsParty p) → place_of places' p ≡ next_place m stride (place_of places p)
     own is = elim (cases_lt (p - 1) (length places)) [
@@ -110,12 +110,12 @@ module _ (shown : ℕ → ℕ) (m stride : ℕ) (hm : 1 ≤ m) (hs : 1 ≤ strid
           sooner = λ n hn other.
               let s = stands n (hn.0, omega (arith, hn.1, size_is)) in
               let l = due_sooner shown m stride q hm hs apart (placed p is) n s.0 s.1 s.2 (λ e. other (e ∙ sym (answered is))) in
-              omega (arith, l, due-is p n, due-is' p n, ap (λ a. round_due shown m stride a n) (own is));
+              omega (arith, l, due_is p n, due_is' p n, ap (λ a. round_due shown m stride a n) (own is));
         }
 
     pub move_is_pick : ((IsParty p → ⊥) → (answer ≡ 0) × (new ≡ old)) → Picked numbers horizon due old new p answer
     move_is_pick refused = record {
-      numbers_stay = size-stays;
+      numbers_stay = size_stays;
       span_stays = span_stays;
       others_stay = λ q n isq other _. elim (party_or_not p) [
         | inl is ↦ others is q n isq other

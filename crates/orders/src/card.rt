@@ -1,7 +1,7 @@
-ghost use Rattle.std.specs.Prelude.{◌≡◌, ℕ, ◌+◌, ◌-◌, ◌<◌, ◌≤◌, List, length, vec_len, MatchBool, MatchResult, ◌≢◌, slice_set};
+ghost use Rattle.std.specs.Prelude.{◌≡◌, ℕ, ◌+◌, ◌-◌, ◌<◌, length, MatchBool, MatchResult, ◌≢◌, slice_set};
 ghost use Rattle.orders.specs.Limits.{IsParty};
-ghost use Rattle.orders.specs.Making.{SizeFits, CardFits, RefusedBy, Made, times_on};
-ghost use Rattle.orders.specs.Meaning.{IsNumber, Picked};
+ghost use Rattle.orders.specs.Making.{CardFits, RefusedBy, Made, times_on};
+ghost use Rattle.orders.specs.Meaning.{IsNumber};
 ghost use Rattle.orders.specs.Rounds.{next_place, place_of, round_due, entry_at};
 ghost use Rattle.orders.specs.CardsLemmas.{card_dues_below};
 

@@ -1,4 +1,4 @@
-ghost use Rattle.std.specs.Prelude.{◌≡◌, ℕ, ◌+◌, ◌-◌, ◌%◌, ◌<◌, ◌≤◌, length, slice_set};
+ghost use Rattle.std.specs.Prelude.{◌≡◌, ℕ, ◌+◌, ◌-◌, ◌%◌, ◌<◌, ◌≤◌, slice_set};
 ghost use Rattle.orders.specs.Limits.{IsParty, largest_size};
 ghost use Rattle.orders.specs.Meaning.{IsNumber};
 ghost use Rattle.orders.specs.Making.{AtStart};

@@ -1,7 +1,6 @@
-ghost use Rattle.std.specs.Prelude.{◌≡◌, ℕ, ◌+◌, ◌-◌, ◌*◌, ◌%◌, ◌<◌, ◌≤◌, MatchBool, MatchResult, slice_set, refl};
+ghost use Rattle.std.specs.Prelude.{◌≡◌, ◌+◌, ◌-◌, ◌%◌, ◌<◌, ◌≤◌, MatchBool, MatchResult, slice_set, refl};
 ghost use Rattle.orders.specs.Limits.{IsParty, longest_stride};
-ghost use Rattle.orders.specs.Making.{SizeFits, StrideFits, NoSharedFactor, RefusedBy, Made};
-ghost use Rattle.orders.specs.Meaning.{Picked};
+ghost use Rattle.orders.specs.Making.{StrideFits, NoSharedFactor, RefusedBy, Made};
 ghost use Rattle.orders.specs.Rounds.{next_place, place_of, round_due};
 ghost use Rattle.orders.specs.RoundsLemmas.{dues_below};
 

@@ -1,4 +1,4 @@
-ghost use Rattle.std.specs.Prelude.{◌≡◌, ◌+◌, ◌-◌, ◌<◌, ◌≤◌, true, if◌then◌else◌, Some, None};
+ghost use Rattle.std.specs.Prelude.{◌≡◌, ◌+◌, ◌-◌, ◌<◌, true, if◌then◌else◌, Some, None};
 ghost use Rattle.model.specs.Entries.{nth};
 ghost use Rattle.model.specs.Steps.{decide as decides, decide_place};
 ghost use Rattle.step.specs.Counting.{movable, movable_at};

@@ -2,7 +2,7 @@ use Rattle.std.proofs.Common.{ltb, sym, ap, ◌∙◌}
 use Rattle.model.specs.State.{trail_of}
 use Rattle.cells.specs.Ready.{has_room}
 use Rattle.cells.proofs.Paths.{length_is}
-use Rattle.cells.proofs.step.has_room.Goals as goal
+use Rattle.cells.proofs.one_step.has_room.Goals as goal
 
 pub returns-in-Lengthens : goal.returns-in-Lengthens
 returns-in-Lengthens c =
