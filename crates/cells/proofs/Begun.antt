@@ -1,9 +1,8 @@
 -- A party's record after an accepted Begin.
-use Rattle.std.proofs.Common.{◌≡◌, ℕ, ◌-◌, ◌≤◌, List, length, set, sym, refl, ap, ◌∙◌}
+use Rattle.std.proofs.Common.{◌≡◌, ℕ, ◌-◌, ◌≤◌, List, length, set, refl, ap, ◌∙◌}
 use Rattle.model.specs.declared.calls.Call.{Call}
 use Rattle.model.specs.declared.calls.Call.TheVariants.{Enter, Up, Leave, Read, Down, Keep, Drop, Hand, Fetch, Make, Sweep}
 use Rattle.model.specs.declared.running.Running.{Running}
-use Rattle.model.specs.Fun.{upd}
 use Rattle.model.specs.Entries.{nth}
 use Rattle.model.specs.State.{Trail, trail_of, Store, set_trail, set_run}
 use Rattle.model.specs.Begins.{started}

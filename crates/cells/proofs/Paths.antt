@@ -1,8 +1,8 @@
 -- A trail in its array: what lengthening and shortening make of it.
-use Rattle.std.proofs.Common.{◌≡◌, ℕ, zero, suc, ◌+◌, ◌-◌, ◌<◌, ◌≤◌, ◌⊎◌, List, ◌∷◌, length, get_or, set, sym, refl, ap, ◌∙◌, inl, inr, arith}
+use Rattle.std.proofs.Common.{◌≡◌, ℕ, zero, suc, ◌+◌, ◌-◌, ◌<◌, ◌≤◌, ◌⊎◌, List, length, set, sym, refl, ap, ◌∙◌, inl, inr, arith}
 use Rattle.std.proofs.lemmas.List.{get_or-set_same, get_or-set_other, get_or_past}
 use Rattle.model.specs.declared.trail.Trail.{Trail as TrailRecord}
-use Rattle.model.specs.State.{along, backwards, trail_of, last_of, longer, shorter}
+use Rattle.model.specs.State.{backwards, trail_of, last_of, longer, shorter}
 use Rattle.model.specs.Existing.{trail_length}
 
 abbrev laid : ℕ → ℕ → List ℕ → TrailRecord

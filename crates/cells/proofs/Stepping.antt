@@ -1,11 +1,10 @@
 -- The program's step over the lists is the model's over the view, or nothing happens.
-use Rattle.std.proofs.Common.{◌≡◌, ℕ, ◌<◌, ◌≤◌, Bool, true, false, cond, ◌&&◌, leb, ◌⊎◌, List, length, Some, None, Option, sym, refl, ap, ◌∙◌, subst, inl, inr, arith}
+use Rattle.std.proofs.Common.{◌≡◌, ℕ, ◌<◌, Bool, true, false, cond, ◌&&◌, leb, ◌⊎◌, List, length, Some, None, Option, sym, refl, ap, ◌∙◌, inl, inr, arith}
 use Rattle.std.proofs.lemmas.Bool.{cases_lt, cond-true, cond-false, and_from, lt-leb, true≢false}
 use Rattle.step.specs.Counting.{movable}
 use Rattle.model.specs.declared.words.Address.{Address}
 use Rattle.model.specs.declared.words.Word.{Word}
 use Rattle.model.specs.declared.words.Decision.{Decision}
-use Rattle.model.specs.declared.words.Told.{Told}
 use Rattle.model.specs.Entries.{nth}
 use Rattle.model.specs.State.{trail_of, last_of, Store, last, set_run}
 use Rattle.model.specs.Steps.{between, address, loaded, written, data_written, changed, looks_at, decide, decision, stepped, data_after}

@@ -2,10 +2,10 @@
 #![tactic(auto)]
 
 mod making;
+mod one_step;
 mod reading;
 pub mod records;
 mod starting;
-mod one_step;
 mod table;
 mod trails;
 mod walking;

@@ -1,13 +1,13 @@
 -- Each bench figure holds of the definitions.
-use Rattle.std.proofs.Common.{◌≡◌, ℕ, zero, suc, ◌+◌, ◌%◌, ◌<◌, ◌≤◌, List, [], ◌∷◌, ℤ, pos, sym, refl, ap, ◌∙◌, inl, inr, mod-eq_of_lt, arith}
+use Rattle.std.proofs.Common.{◌≡◌, ℕ, zero, suc, ◌<◌, List, [], ◌∷◌, ℤ, pos, refl, ap, ◌∙◌, inl, inr, mod-eq_of_lt, arith}
 use Rattle.refusals.specs.Numbers.{number_of}
 use Rattle.refusals.specs.declared.Refusal.TheVariants.{BadOrder}
-use Rattle.orders.specs.Making.{SizeFits, StrideFits, CardFits, NoSharedFactor, times_on}
+use Rattle.orders.specs.Making.{SizeFits, StrideFits, NoSharedFactor, times_on}
 use Rattle.orders.specs.Meaning.{IsNumber}
 use Rattle.orders.specs.Factors.{none_shared_with_one}
 use Rattle.kinds.specs.declared.gearbox.Range.TheVariants.{Low}
 use Rattle.kinds.specs.declared.gearbox.Situation.{Situation}
-use Rattle.figures.specs.Figures.{EachHolds, Holds, figures, refusing, card}
+use Rattle.figures.specs.Figures.{EachHolds, figures, refusing, card}
 
 -- some situation
 mild : Situation

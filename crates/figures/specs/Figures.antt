@@ -1,5 +1,5 @@
 -- The bench figures: what the definitions of orders and kinds give, and what it should be.
-use Rattle.std.specs.Prelude.{◌≡◌, ℕ, Bool, true, false, cond, List, [], ◌∷◌, map, ℤ, pos, negsuc}
+use Rattle.std.specs.Prelude.{◌≡◌, ℕ, false, cond, List, [], ◌∷◌, map, ℤ, pos, negsuc}
 use Rattle.refusals.specs.Numbers.{number_of}
 use Rattle.refusals.specs.declared.Refusal.{Refusal}
 use Rattle.orders.specs.Making.{SizeFits, StrideFits, CardFits, RefusedBy}
@@ -10,8 +10,6 @@ use Rattle.kinds.specs.Traces.{trace_worth, no_trace}
 use Rattle.kinds.specs.declared.codes.Code.{Code}
 use Rattle.kinds.specs.declared.codes.Code.TheVariants.{Number, Sum, Scaled, Held}
 use Rattle.kinds.specs.declared.gearbox.Situation.{Situation}
-use Rattle.kinds.specs.declared.given.Given.{Given}
-use Rattle.kinds.specs.declared.maps.MapData.{MapData}
 use Rattle.kinds.specs.declared.traces.TraceData.{TraceData}
 use Rattle.kinds.specs.declared.traces.Worst.{Worst}
 use Rattle.figures.specs.Answers.{answers_from}

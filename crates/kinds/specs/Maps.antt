@@ -1,5 +1,5 @@
 -- Shift maps: what map data fits, and what a node of it is worth in whole kPa.
-use Rattle.std.specs.Prelude.{◌≡◌, ℕ, ◌<◌, Bool, false, cond, ◌&&◌, ◌||◌, List, ℤ, pos, negsuc, ◌+ℤ◌, ◌-ℤ◌, ◌*ℤ◌, neg_ℤ, Some, None, Option, FitsSigned, ◌==◌, int_div}
+use Rattle.std.specs.Prelude.{ℕ, ◌<◌, Bool, false, cond, ◌&&◌, ◌||◌, List, ℤ, pos, negsuc, ◌+ℤ◌, ◌-ℤ◌, ◌*ℤ◌, neg_ℤ, Some, None, Option, FitsSigned, ◌==◌, int_div}
 use Rattle.std.specs.Int.{int_max, int_min, w32}
 use Rattle.kinds.specs.Bytes.{four_bytes, value_of, complement, signed}
 use Rattle.kinds.specs.Codes.{code_number, code_of, kids_taken, first_given}

@@ -2,7 +2,7 @@
 use Rattle.std.proofs.Common.{◌≡◌, ℕ, suc, ◌+◌, ◌-◌, ◌<◌, ◌≤◌, true, eqb, ◌≢◌, sym, refl, ap, ◌∙◌, subst, inl, inr, arith}
 use Rattle.std.proofs.lemmas.Bool.{cases_eq, cases_lt, cond_both, eqb-true, eqb-false}
 use Rattle.model.specs.Fun.{upd, is}
-use Rattle.model.specs.Types.{Kid, First, Second, Third, Kids, Tray, Closed, Open, Holding, Place, OpenTray, ReadTray, LookForNode, LockNode, Recheck, UnlockAndGoBack, ReadKid, ClearKid, UncountKid, Claim, Unlock, Offer, CloseTray, WriteData, Job, Makes, Sweeps, Running, Works, Up}
+use Rattle.model.specs.Types.{Kid, First, Second, Third, Kids, Tray, Closed, Open, Holding, Place, OpenTray, ReadTray, LookForNode, LockNode, Recheck, UnlockAndGoBack, ReadKid, ClearKid, UncountKid, Claim, Unlock, Offer, CloseTray, WriteData, Job, Makes, Sweeps, Running, Works}
 use Rattle.model.specs.State.{position, kid_at, put_kid, Store, set_count, set_lock, set_kid, set_tray, set_run}
 use Rattle.model.specs.Steps.{after_kid}
 use Rattle.model.specs.Inv.{Reliance, relies, none, reliance_at, reliance, needs_job, tray_node, carry, Local, Own, FitPlace, FitJob, LocalOf, Good, Bare, Inv}

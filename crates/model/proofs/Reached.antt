@@ -2,7 +2,7 @@
 use Rattle.std.proofs.Common.{◌≡◌, ℕ, zero, suc, ◌+◌, ◌<◌, ◌≤◌, ◌≢◌, sym, ap, ◌∙◌, subst, inl, inr, arith}
 use Rattle.std.proofs.lemmas.Bool.{cases_eq, cases_lt}
 use Rattle.model.specs.Fun.{upd, sum_to, is}
-use Rattle.model.specs.Types.{Kid, First, Second, Third, Kids, Closed, Idle, Up}
+use Rattle.model.specs.Types.{Kid, First, Second, Third, Kids, Closed, Idle}
 use Rattle.model.specs.State.{position, kid_at, put_kid, Store}
 use Rattle.model.specs.Reach.{Reach, by_slot, by_box, by_kid, Reached, Free, Below, kid, deeper, Acyclic}
 use Rattle.model.specs.Inv.{none, reliance, tray_node, occ, carry, in_slots, in_boxes, in_trays, carried, in_kids, Inv}

@@ -1,7 +1,7 @@
 -- Two numbers with no shared factor: a multiple of the one is one above a multiple of the other.
 use Rattle.std.specs.Prelude.{◌≡◌, ℕ, zero, suc, ◌+◌, ◌-◌, ◌*◌, ◌%◌, ◌<◌, ◌≤◌, ◌≢◌}
 use Rattle.std.proofs.Common.{sym, subst, ap, ◌∙◌, inl, inr, arith, mul-add, add-mul, mul-one, mul-zero, mod-eq_of_lt}
-use Rattle.std.proofs.Math.Nat.{add-mod, mod_self, zero-mod, mod-zero}
+use Rattle.std.proofs.Math.Nat.{add-mod, mod_self, zero-mod}
 use Rattle.std.proofs.lemmas.Bool.{cases_order, cases_lt}
 use Rattle.orders.specs.Making.{NoSharedFactor}
 

@@ -8,7 +8,7 @@ use Rattle.std.proofs.lemmas.Bool.{cases_lt}
 use Rattle.orders.specs.Limits.{IsParty, last_party}
 use Rattle.orders.specs.Meaning.{IsNumber, Answered, Picked}
 use Rattle.orders.specs.Making.{NoSharedFactor}
-use Rattle.orders.specs.Rounds.{before, place_after, next_place, place_of, round_due}
+use Rattle.orders.specs.Rounds.{place_after, next_place, place_of, round_due}
 use Rattle.orders.specs.Before.{before_le, before_sooner}
 use Rattle.orders.specs.Factors.{one_apart}
 

@@ -1,4 +1,4 @@
-use Rattle.std.proofs.Common.{◌<◌, ◌⊎◌, inl, inr, arith}
+use Rattle.std.proofs.Common.{inl, inr, arith}
 use Rattle.cells.proofs.Paths.{last_none}
 use Rattle.cells.proofs.trails.last_node.Goals as goal
 use Rattle.cells.proofs.trails.last_node.Goals.{then-trail-lt1-via-then-trail-lt1, then-trail-lt1-via-else-trail-lt1+then-trail-gt-LONGEST_TRAIL}

@@ -1,4 +1,4 @@
-use Rattle.std.proofs.Common.{◌≡◌, ℕ, ◌+◌, ◌*◌, ◌≤◌, pos, ap, ◌∙◌, arith}
+use Rattle.std.proofs.Common.{◌≡◌, ℕ, ◌+◌, ◌≤◌, pos, ap, ◌∙◌, arith}
 use Rattle.figures.proofs.Inside.{inside_pos, read_again, doubled}
 use Rattle.figures.proofs.pressures.sixteen_gears.Goals as goal
 

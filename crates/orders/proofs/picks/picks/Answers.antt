@@ -1,4 +1,4 @@
-use Rattle.std.proofs.Common.{◌≡◌, ℕ, ◌≤◌, List, length, vec_items, vec_len, sym, ap, ◌∙◌, subst, arith, rules}
+use Rattle.std.proofs.Common.{◌≡◌, ℕ, List, length, vec_items, vec_len, sym, subst, arith}
 use Rattle.orders.specs.Meaning.{PickedInTurn, none}
 use Rattle.orders.proofs.Runs.{one_more, each_comes}
 use Rattle.orders.proofs.picks.picks.Goals as goal

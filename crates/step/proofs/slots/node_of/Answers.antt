@@ -1,4 +1,4 @@
-use Rattle.std.proofs.Common.{◌<◌, ◌≤◌, ◌⊎◌, inl, inr, arith}
+use Rattle.std.proofs.Common.{inl, inr, arith}
 use Rattle.model.proofs.Entries.{nth_none}
 use Rattle.step.proofs.slots.node_of.Goals as goal
 

@@ -1,4 +1,4 @@
-use Rattle.std.proofs.Common.{◌≡◌, ◌-◌, length, set, sym, refl, ap, ◌∙◌, arith}
+use Rattle.std.proofs.Common.{◌-◌, length, set, refl}
 use Rattle.model.specs.declared.words.Address.TheVariants.{CountOf, LockOf, KidOf, DataOf, InboxOf, TrayOf}
 use Rattle.model.specs.declared.words.Word.TheVariants.{CountWord, LockWord, KidWord, DataWord, InboxWord, TrayWord}
 use Rattle.model.specs.Entries.{nth}

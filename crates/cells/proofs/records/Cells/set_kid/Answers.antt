@@ -1,4 +1,4 @@
-use Rattle.std.proofs.Common.{◌≡◌, ℕ, ◌≤◌, length, sym, refl, ap, ◌∙◌, arith}
+use Rattle.std.proofs.Common.{◌≡◌, ℕ, ◌≤◌, length, refl, ap, ◌∙◌, arith}
 use Rattle.model.specs.Fun.{upd}
 use Rattle.model.specs.Entries.{nth}
 use Rattle.model.specs.State.{put_kid}

@@ -1,4 +1,4 @@
-use Rattle.std.proofs.Common.{◌≡◌, ℕ, ◌-◌, ◌<◌, ◌≤◌, true, ltb, length, sym, refl, ap, ◌∙◌, subst, arith}
+use Rattle.std.proofs.Common.{◌≡◌, ℕ, ◌-◌, ◌≤◌, true, ltb, length, sym, refl, ap, ◌∙◌, subst, arith}
 use Rattle.std.proofs.lemmas.Bool.{ltb-true}
 use Rattle.std.specs.Vec.{with_item}
 use Rattle.orders.specs.Limits.{largest_size}
@@ -6,7 +6,7 @@ use Rattle.model.specs.declared.words.Change.{Change}
 use Rattle.model.specs.declared.words.Change.TheVariants.{Stays, Fills, Lengthens}
 use Rattle.model.specs.Entries.{nth}
 use Rattle.model.specs.State.{trail_of, set_run}
-use Rattle.model.specs.Steps.{changed, between}
+use Rattle.model.specs.Steps.{changed}
 use Rattle.cells.specs.declared.records.PartyRecord.{PartyRecord}
 use Rattle.cells.specs.Ready.{has_room}
 use Rattle.cells.specs.View.{view_of, new_record}

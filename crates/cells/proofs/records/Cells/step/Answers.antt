@@ -1,4 +1,4 @@
-use Rattle.std.proofs.Common.{◌≡◌, ℕ, ◌<◌, ◌≤◌, Bool, true, false, ◌⊎◌, length, sym, refl, ap, ◌∙◌, subst, inl, inr, arith}
+use Rattle.std.proofs.Common.{◌≡◌, ℕ, ◌<◌, false, ◌⊎◌, length, sym, refl, ap, ◌∙◌, inl, inr, arith}
 use Rattle.model.specs.Entries.{nth}
 use Rattle.model.specs.Steps.{looks_at}
 use Rattle.model.proofs.Stepped.{is_within}

@@ -1,4 +1,4 @@
-use Rattle.std.proofs.Common.{ℕ, List, vec_items, sym, ap, ◌∙◌, subst, arith}
+use Rattle.std.proofs.Common.{ℕ, List, vec_items, sym, ◌∙◌, subst, arith}
 use Rattle.orders.specs.Making.{CardFits}
 use Rattle.orders.proofs.card.Card.new.Goals as goal
 

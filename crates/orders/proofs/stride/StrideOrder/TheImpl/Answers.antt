@@ -1,4 +1,4 @@
-use Rattle.std.proofs.Common.{◌-◌, set, sym, refl, ap, ◌∙◌}
+use Rattle.std.proofs.Common.{◌-◌, set, refl, ap, ◌∙◌}
 use Rattle.orders.specs.Rounds.{place_of, round_due}
 use Rattle.orders.specs.RoundsLemmas.{move_is_pick}
 use Rattle.orders.proofs.stride.StrideOrder.TheImpl.Goals as goal
