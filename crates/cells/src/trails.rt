@@ -1,7 +1,7 @@
 // A trail in its fixed array.
 ghost use Rattle.std.specs.Prelude.{◌≡◌, ◌<◌, []};
 ghost use Rattle.model.specs.State.{along, last_of, longer, shorter, trail_of};
-ghost use Rattle.model.specs.State.{no_trail as noTrail};
+ghost use Rattle.model.specs.State.{no_trail};
 ghost use Rattle.orders.specs.Limits.{largest_size};
 
 use model::nodes::{Node, Slot};
@@ -50,7 +50,7 @@ pub(crate) fn shorten(trail: &mut Trail)
 
 // Leaves no trail.
 pub(crate) fn leave(trail: &mut Trail)
-    ensures { trail_of trail.new ≡ noTrail }
+    ensures { trail_of trail.new ≡ no_trail }
 {
     trail.length = 0;
 }

@@ -1,6 +1,6 @@
 ghost use Rattle.std.specs.Prelude.{◌≡◌};
 ghost use Rattle.model.specs.Steps.{going, ending, after_kid};
-ghost use Rattle.model.specs.Steps.{ended_by as endedBy};
+ghost use Rattle.model.specs.Steps.{ended_by};
 ghost use Rattle.model.specs.declared.outcomes.Answer.TheVariants.{Swept};
 ghost use Rattle.model.specs.declared.running.Running.TheVariants.{Works};
 ghost use Rattle.model.specs.declared.words.Change.TheVariants.{Stays};
@@ -66,7 +66,7 @@ pub(crate) fn end_sweep<D: Copy, W: Copy>(word: Word<D>, n: Node, taker: Party) 
 
 // The call ends, and nothing but that has changed.
 pub(crate) fn stop<D: Copy, W: Copy>(outcome: Outcome<D, W>) -> Decision<D, W>
-    ensures { result ≡ endedBy outcome }
+    ensures { result ≡ ended_by outcome }
 {
     Decision {
         word: Word::NoWord,

@@ -1,5 +1,5 @@
 ghost use Rattle.std.specs.Prelude.{◌≡◌};
-ghost use Rattle.model.specs.Steps.{made as madeWith, from_third, from_second, from_first, onward, data_given, kid_linked};
+ghost use Rattle.model.specs.Steps.{made as made_with, from_third, from_second, from_first, onward, data_given, kid_linked};
 
 use crate::decisions::{end, go, stop};
 use model::nodes::{Kid, Node};
@@ -76,7 +76,7 @@ fn from_third<D: Copy, W: Copy>(plan: &Plan<D>, v: Node, word: Word<D>) -> Decis
 
 // All kids are there: the node goes into the slot.
 fn fill_slot<D: Copy, W: Copy>(plan: &Plan<D>, v: Node, word: Word<D>) -> Decision<D, W>
-    ensures { result ≡ madeWith plan.now v word }
+    ensures { result ≡ made_with plan.now v word }
 {
     end(word, Change::Fills(plan.slot, v), Answer::AtNode(v))
 }
