@@ -1,6 +1,5 @@
-use Rattle.std.proofs.Common.{◌≡◌, ℕ, ◌≤◌, false, length, Some, None, sym, refl, ap, ◌∙◌}
+use Rattle.std.proofs.Common.{ℕ, false, length, sym, refl, ◌∙◌}
 use Rattle.model.specs.Checks.{Lengths}
-use Rattle.model.specs.Checks.{turn_fault}
 use Rattle.model.specs.Runs.{turn_refused, turn}
 use Rattle.model.specs.Walks.{Notes}
 use Rattle.model.proofs.Accepted.{turn_walks_not}

@@ -9,7 +9,7 @@ use Rattle.model.specs.declared.outcomes.Outcome.{Outcome}
 use Rattle.model.specs.declared.outcomes.Outcome.TheVariants.{StillRunning, Ended}
 use Rattle.model.specs.Checks.{is_idle}
 use Rattle.model.specs.State.{Store, last}
-use Rattle.model.specs.Walks.{Notes, marked, first_unmarked, noted}
+use Rattle.model.specs.Walks.{marked, first_unmarked, noted}
 use Rattle.walks.specs.Notes.{notes_of, worked_out}
 use Rattle.cells.specs.Walked.{goes_on}
 

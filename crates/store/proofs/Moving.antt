@@ -1,5 +1,5 @@
 -- From what the program's parts promise to a move of the model.
-use Rattle.std.proofs.Common.{◌≡◌, ℕ, ◌≤◌, Bool, true, false, cond, not, ◌||◌, ltb, List, [], ◌∷◌, Some, None, Option, sym, refl, ap, ◌∙◌, subst, arith}
+use Rattle.std.proofs.Common.{◌≡◌, ℕ, Bool, true, false, cond, not, ◌||◌, ltb, [], ◌∷◌, None, Option, sym, refl, ap, ◌∙◌, subst, arith}
 use mathlib.Core.Path.{fun_ext}
 use mathlib.Core.Logic.{∥∥₁_map}
 use Rattle.refusals.specs.declared.Refusal.{Refusal}
@@ -11,13 +11,12 @@ use Rattle.model.specs.declared.calls.Asked.{Asked}
 use Rattle.model.specs.declared.calls.Asked.TheVariants.{AsksCall, AsksWalk}
 use Rattle.model.specs.declared.calls.Call.{Call}
 use Rattle.model.specs.declared.calls.Walk.{Walk}
-use Rattle.model.specs.Runs.{begins, turns, walk_turns}
+use Rattle.model.specs.Runs.{begins}
 use Rattle.model.specs.Checks.{Lengths}
 use Rattle.model.specs.declared.nodes.Kids.{Kids}
 use Rattle.model.specs.declared.outcomes.Outcome.{Outcome}
 use Rattle.model.specs.declared.outcomes.Outcome.TheVariants.{Begun}
 use Rattle.model.specs.declared.running.Running.{Running}
-use Rattle.model.specs.declared.words.Decision.{Decision}
 use Rattle.model.specs.declared.words.Told.{Told}
 use Rattle.model.specs.declared.words.Told.TheVariants.{Tells, Settles}
 use Rattle.model.specs.Fun.{upd}
@@ -27,10 +26,9 @@ use Rattle.model.specs.Sound.{Sound}
 use Rattle.model.specs.State.{Store, Trail}
 use Rattle.model.specs.Walks.{Notes}
 use Rattle.kinds.specs.Situations.{Describes}
-use Rattle.model.specs.Runs.{System, begin_fault_of, walk_begun, Moves, turn_refused, turn, Steps, Asks, asks_nodes, asks_parties, moved_as, moved}
+use Rattle.model.specs.Runs.{System, begin_fault_of, walk_begun, Moves, Steps, moved_as, moved}
 use Rattle.model.specs.Setting.{Setting}
 use Rattle.model.specs.Steps.{between, decision}
-use Rattle.model.proofs.Accepted.{turn_walks_not}
 use Rattle.model.proofs.Begins.{accepted, sound_started, sound_started_walk}
 use Rattle.model.proofs.Stepped.{is_within}
 use Rattle.cells.proofs.Views.{upd_own, upd_twice}

@@ -1,7 +1,6 @@
 -- When a store opens, and why it does not.
 use Rattle.std.specs.Prelude.{◌≡◌, ℕ, ◌≤◌, ◌⊎◌}
 use Rattle.refusals.specs.declared.Refusal.TheVariants.{OutsideLimits, OrderOfAnotherSize}
-use Rattle.orders.specs.declared.order.Order.{Ghosts as OrderMeaning}
 use Rattle.orders.specs.Limits.{last_party, largest_size}
 use Rattle.model.specs.State.{new_store}
 use Rattle.cells.specs.declared.records.Cells.{Cells}

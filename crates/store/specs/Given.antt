@@ -7,7 +7,7 @@ use Rattle.model.specs.Runs.{System}
 use Rattle.model.specs.Setting.{Meaning, Setting, setting_of}
 use Rattle.model.specs.Walks.{Notes}
 use Rattle.cells.specs.declared.records.Cells.{Cells}
-use Rattle.cells.specs.View.{view_of, parties_of, nodes_of}
+use Rattle.cells.specs.View.{view_of}
 
 -- a search order by its meaning
 abbrev pub meaning_of : {O : Type 0} → OrderMeaning O → Meaning O

@@ -1,5 +1,5 @@
 -- A walk that has read its node and settles it: the program's two parts are the model's one Turn.
-use Rattle.std.proofs.Common.{◌≡◌, ℕ, Bool, true, false, cond, Some, None, Option, sym, refl, ap, ◌∙◌, subst, arith}
+use Rattle.std.proofs.Common.{◌≡◌, ℕ, cond, Some, None, Option, sym, refl, ap, ◌∙◌, subst, arith}
 use Rattle.kinds.specs.declared.gearbox.Situation.{Situation}
 use Rattle.model.specs.declared.nodes.Kid.{Kid}
 use Rattle.model.specs.declared.nodes.Kids.{Kids}
@@ -16,11 +16,11 @@ use Rattle.model.specs.Fun.{upd}
 use Rattle.model.specs.Checks.{is_idle}
 use Rattle.model.specs.Runs.{System, Asks, asks_nodes, asks_parties, Steps, moved_as}
 use Rattle.model.specs.Setting.{Setting}
-use Rattle.model.specs.State.{Store, Trail, shorter, set_trail, set_run, last}
-use Rattle.model.specs.Steps.{address, loaded, written, data_written, changed, decide, decision, stepped, data_after}
-use Rattle.model.specs.Walks.{Notes, marked, resumes, first_unmarked, kid_worth, noted, gone_up, settled_store, settled_notes}
+use Rattle.model.specs.State.{Store, Trail, shorter, set_run, last}
+use Rattle.model.specs.Steps.{address, loaded, written, data_written, changed, decide, decision}
+use Rattle.model.specs.Walks.{Notes, marked, resumes, first_unmarked, noted, gone_up, settled_store, settled_notes}
 use Rattle.model.proofs.Tells.{TellsAtOnce, IsFourth, tells_at_once}
-use Rattle.cells.specs.Walked.{trails_on, runs_on, goes_on}
+use Rattle.cells.specs.Walked.{goes_on}
 use Rattle.cells.proofs.Begun.{trail_own}
 use Rattle.cells.proofs.Views.{upd_twice}
 use Rattle.walks.specs.Notes.{worked_out}

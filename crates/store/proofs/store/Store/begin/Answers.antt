@@ -1,9 +1,8 @@
-use Rattle.std.proofs.Common.{◌≡◌, ℕ, ◌≤◌, not, length, None, sym, refl, ap, ◌∙◌, arith}
+use Rattle.std.proofs.Common.{◌≡◌, ℕ, ◌≤◌, not, length, sym, refl, ap, ◌∙◌, arith}
 use Rattle.orders.specs.Limits.{last_party, largest_size}
-use Rattle.model.specs.declared.calls.Asked.TheVariants.{AsksCall}
 use Rattle.model.specs.Checks.{Lengths}
-use Rattle.model.specs.Checks.{begin_fault, is_idle}
-use Rattle.model.specs.Runs.{System, with_store, begin_refused, call_begun}
+use Rattle.model.specs.Checks.{is_idle}
+use Rattle.model.specs.Runs.{with_store, begin_refused, call_begun}
 use Rattle.cells.specs.View.{view_of, parties_of, nodes_of}
 use Rattle.store.specs.Given.{setting_for, system_of}
 use Rattle.store.proofs.Accepted.{sound_sized}

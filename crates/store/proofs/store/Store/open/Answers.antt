@@ -1,9 +1,7 @@
-use Rattle.std.proofs.Common.{◌≡◌, ℕ, ◌≤◌, true, sym, subst, arith}
-use Rattle.orders.specs.Limits.{last_party, largest_size}
+use Rattle.std.proofs.Common.{◌≡◌, ℕ, sym, subst, arith}
 use Rattle.model.specs.Sound.{Sound}
 use Rattle.model.proofs.NewStore.{new_sound}
-use Rattle.cells.specs.View.{view_of, parties_of, nodes_of}
-use Rattle.store.specs.Opening.{InLimits}
+use Rattle.cells.specs.View.{parties_of, nodes_of}
 use Rattle.store.proofs.store.Store.open.Goals as goal
 
 pub invariant_of-result : goal.invariant_of-result

@@ -1,4 +1,4 @@
-use Rattle.std.proofs.Common.{◌≡◌, ℕ, ◌≤◌, length, sym, refl, ap, ◌∙◌, subst, arith}
+use Rattle.std.proofs.Common.{◌≡◌, ℕ, ◌≤◌, length, subst, arith}
 use Rattle.orders.specs.Limits.{last_party, largest_size}
 use Rattle.model.specs.Entries.{nth}
 use Rattle.model.specs.Runs.{Asks, asks_nodes, asks_parties}

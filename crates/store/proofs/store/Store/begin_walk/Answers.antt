@@ -1,18 +1,14 @@
-use Rattle.std.proofs.Common.{◌≡◌, ℕ, ◌≤◌, Bool, true, false, not, length, sym, refl, ap, ◌∙◌, arith}
-use mathlib.Core.Path.{fun_ext}
+use Rattle.std.proofs.Common.{◌≡◌, ℕ, ◌≤◌, not, length, sym, refl, ap, ◌∙◌, arith}
 use Rattle.orders.specs.Limits.{last_party, largest_size}
 use Rattle.std.proofs.lemmas.Bool.{true≢false}
 use Rattle.model.specs.declared.calls.Asked.TheVariants.{AsksWalk}
 use Rattle.model.specs.Checks.{Lengths}
 use Rattle.model.specs.Checks.{is_idle}
-use Rattle.model.specs.Entries.{nth}
 use Rattle.model.specs.Fun.{upd}
-use Rattle.model.specs.Runs.{with_walk, begin_refused, walk_begun}
-use Rattle.model.specs.Walks.{Notes}
+use Rattle.model.specs.Runs.{begin_refused}
 use Rattle.model.proofs.Begins.{accepted, walk_passed}
 use Rattle.walks.specs.Notes.{marks_of, notes_of}
 use Rattle.cells.specs.View.{view_of, parties_of, nodes_of}
-use Rattle.cells.proofs.Views.{upd_twice}
 use Rattle.store.specs.Given.{setting_for, system_of}
 use Rattle.store.proofs.Accepted.{sound_sized}
 use Rattle.store.proofs.Moving.{walk_starts, walk_sound, walk_begins}
