@@ -62,14 +62,14 @@ step_keeps_sound X F H p o m t a b i = ∥∥₁_map t (λ S. subst (Sound X.par
 
 -- the reading that settles a node, and the settling, are one step of the model
 pub settled_step : {K D W A B : Type 0} (kind : KindMeaning K D W) (node_order : OrderMeaning A) (party_order : OrderMeaning B) (N M : ℕ) (F G H : System D W A B) (p : ℕ) (told : Told D W) (i : Situation) (d : D) (ks : Kids)
-    (notes : ℕ → Notes W) (marks marks-after : List Bool) (worths worths-after : List W) (o : Outcome D W)
+    (notes : ℕ → Notes W) (marks marks_after : List Bool) (worths worths_after : List W) (o : Outcome D W)
     → Taken (setting_for kind node_order party_order N M) F G p told → told ≡ Settles i d ks
-    → F.notes ≡ upd notes p (notes_of kind.none M marks worths) → H.notes ≡ upd notes p (notes_of kind.none M marks-after worths-after)
+    → F.notes ≡ upd notes p (notes_of kind.none M marks worths) → H.notes ≡ upd notes p (notes_of kind.none M marks_after worths_after)
     → H.info ≡ G.info → H.node_order ≡ G.node_order → H.party_order ≡ G.party_order
-    → Settled kind M G.store H.store p i d ks marks marks-after worths worths-after o → Steps (setting_for kind node_order party_order N M) F p o H
-settled_step {K} {D} {W} kind node_order party_order N M F G H p told i d ks notes marks marks-after worths worths-after o T e en eh ei eu ev S =
+    → Settled kind M G.store H.store p i d ks marks marks_after worths worths_after o → Steps (setting_for kind node_order party_order N M) F p o H
+settled_step {K} {D} {W} kind node_order party_order N M F G H p told i d ks notes marks marks_after worths worths_after o T e en eh ei eu ev S =
     let old : Notes W = notes_of kind.none M marks worths in
-    let later : Notes W = notes_of kind.none M marks-after worths-after in
+    let later : Notes W = notes_of kind.none M marks_after worths_after in
     let own : F.notes p ≡ old = ap (λ f. f p) en ∙ upd_same notes p old in
     settles_at_turn (setting_for kind node_order party_order N M) F G H p told i d ks T e S.below later o
     (S.below_is ∙ ap (λ n. first_unmarked n ks) (sym own)) S.goes ei eu ev
