@@ -34,6 +34,15 @@ BY_HAND = {
     "told-after": "told_after_lem",
 }
 
+# Names that are to change in one file alone, since the same name is right elsewhere.
+IN_ONE_FILE = {
+    "crates/kinds/specs/Codes.antt": {"first_of": "first_with_number"},  # a tactic's name
+    "crates/model/proofs/Explicit.antt": {"let_go": "let_go_at"},  # the definition `let_go` is a decision
+    "crates/model/proofs/Reached.antt": {"kid_of": "kid_with"},  # the definition `kid_of`
+    "crates/orders/specs/RoundsLemmas.antt": {"size-stays": "size_stays", "due-is": "due_is", "due-is'": "due_is'"},
+    "crates/figures/src/figures.rt": {"benchFigures": "bench_figures"},
+}
+
 
 def files(root, *endings):
     for top in ("crates", "docs"):
@@ -121,7 +130,8 @@ def main():
         print(f"fall together as {b}: {', '.join(a)}", file=sys.stderr)
     for path in files(root, ".antt", ".rt", ".edit", ".md"):
         text = read(path)
-        own = new if path.endswith(".antt") else {k: v for k, v in new.items() if k != k.lower() or "-" in k}
+        own = dict(new) if path.endswith(".antt") else {k: v for k, v in new.items() if k != k.lower() or "-" in k}
+        own.update(IN_ONE_FILE.get(os.path.relpath(path, root), {}))
         if path.endswith(".md"):
             turned = re.sub(r"`[^`\n]+`", lambda m: turn(m.group(0), own, None), text)
         else:
