@@ -1,7 +1,9 @@
 #!/usr/bin/env python3
 """Brings the repository's own names of definitions and lemmas to snake case.
 
-usage: python3 tools/respell_names.py      at the top of the checkout, once
+usage: python3 tools/respell_names.py      at the top of a checkout that port.py has just turned, once
+
+It does nothing where docs/PORT.md stands, since it would turn today's names once more.
 
 A name that specs/ or a file of lemmas declares, and that has a dash or a hump, as `no-trail` or `kidAt`, becomes
 `no_trail` or `kid_at`, wherever it stands: in specs, proofs, clauses and must-fail edits, and between backticks in
@@ -124,6 +126,8 @@ def turn(text, new, mark):
 
 def main():
     root = os.getcwd()
+    if os.path.exists(os.path.join(root, "docs", "PORT.md")):
+        sys.exit("respell_names: docs/PORT.md stands here, so this tree is turned already")
     names = declared(root)
     new = table(names)
     for b, a in together(new, names):

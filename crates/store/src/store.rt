@@ -8,7 +8,7 @@ use kinds::kind::Kind;
 use orders::order::Order;
 
 // A store that parties share: its words, the order in which a party looks for a node, and the order in which it offers one.
-// What every store that can exist keeps stands in its type.
+// The limits and the model's invariant stand in its type.
 #[derive(Drop)]
 pub struct Store<K: Kind, U: Order + Drop, V: Order + Drop> {
     pub(crate) cells: Cells<K::Data>,
