@@ -2,7 +2,7 @@ use refusals::Refusal;
 use std::alloc::AllocError;
 
 // Why no store was opened. Want of memory is no refusal and has no number.
-#[derive(Drop)]
+#[derive(Debug, Drop)]
 pub enum OpenError {
     Refused(Refusal),
     NoMemory(AllocError),

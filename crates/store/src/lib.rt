@@ -8,5 +8,7 @@ mod settling;
 mod sizes;
 pub mod store;
 mod taking;
+#[cfg(test)]
+mod tests;
 mod turning;
 mod walking;

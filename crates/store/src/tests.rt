@@ -1,0 +1,128 @@
+// A store of maps with strides as its orders: which opens, and two tasks that take turns on one.
+use crate::errors::OpenError;
+use crate::store::Store;
+use kinds::maps::{Kpa, MapData, Maps};
+use model::calls::{Call, Walk};
+use model::nodes::{Kids, Node};
+use model::outcomes::{Answer, Outcome, TermSize};
+use model::running::Plan;
+use orders::stride::Stride;
+use std::alloc::Global;
+use std::test::Fail;
+
+// Nodes, parties, the sizes of the two orders, and the refusal's number, or 0.
+const OPENINGS: [(u32, u32, u32, u32, u8); 10] = [
+    (255, 15, 255, 15, 0),
+    (1, 1, 1, 1, 0),
+    (0, 1, 1, 1, 1),
+    (256, 1, 255, 1, 1),
+    (65_537, 1, 1, 1, 1),
+    (1, 0, 1, 1, 1),
+    (1, 16, 1, 15, 1),
+    (2, 2, 3, 2, 3),
+    (2, 2, 2, 3, 3),
+    (0, 2, 3, 2, 1),
+];
+
+const NO_MEMORY: u8 = 255;
+
+// The refusal's number, 0 for a store of the sizes asked for.
+fn opening(heap: Global, nodes: u32, parties: u32, node_order: Stride, party_order: Stride) -> u8 {
+    match Store::<Maps, Stride, Stride>::open(heap, nodes, parties, node_order, party_order) {
+        Ok(store) if store.nodes() as u32 == nodes && store.parties() as u32 == parties => 0,
+        Ok(_) => NO_MEMORY - 1,
+        Err(OpenError::Refused(refusal)) => refusal.number(),
+        Err(OpenError::NoMemory(_)) => NO_MEMORY,
+    }
+}
+
+#[test]
+fn openings(rt: HostRuntime) -> Result<(), Fail> {
+    for (nodes, parties, for_nodes, for_parties, expected) in OPENINGS {
+        let node_order = Stride::new(for_nodes, 1)?;
+        let party_order = Stride::new(for_parties, 1)?;
+        assert_eq!(rt;
+            opening(rt.alloc(), nodes, parties, node_order, party_order),
+            expected
+        );
+    }
+    Ok(())
+}
+
+// The node of a call that ended, 0 where it did not.
+fn ended_at(outcome: Outcome<MapData, Kpa>) -> Node {
+    match outcome {
+        Outcome::Ended(answer) => answer.node(),
+        _ => 0,
+    }
+}
+
+// The worth and the size of a walk that ended, zeros where it did not.
+fn worth_told(outcome: Outcome<MapData, Kpa>) -> (Kpa, TermSize) {
+    match outcome {
+        Outcome::Ended(Answer::WorthIs(worth, size)) => (worth, size),
+        _ => (0, 0),
+    }
+}
+
+// A Make of one task is interrupted one turn before its end, and its node is walked and handed on.
+#[test]
+fn two_parties_take_turns(rt: HostRuntime) -> Result<(), Fail> {
+    let mut store = Store::<Maps, Stride, Stride>::open(
+        rt.alloc(),
+        2,
+        2,
+        Stride::new(2, 1)?,
+        Stride::new(2, 1)?,
+    )?;
+    let number = MapData {
+        code: 0,
+        number: 350,
+    };
+    let mut data = [MapData { code: 0, number: 0 }; 2];
+    let plan = Plan {
+        slot: 1,
+        kids: Kids {
+            first: 0,
+            second: 0,
+            third: 0,
+        },
+        given: number,
+    };
+    assert_eq!(rt; store.begin(1, Call::Make(plan), &data).number(), 0);
+    for _ in 0..13 {
+        assert_eq!(rt; store.turn(1, &mut data).number(), 100);
+    }
+    assert_eq!(rt; store.begin(2, Call::Drop(1), &data).number(), 13);
+    assert_eq!(rt; ended_at(store.turn(1, &mut data)), 2);
+    assert_eq!(rt; data[1].number, 350);
+    assert_eq!(rt; data[0].number, 0);
+    let mut marks = [true; 2];
+    let mut worths = [0; 2];
+    let walk = Walk {
+        slot: 1,
+        range: 0,
+        gear: 3,
+        temperature: 90,
+    };
+    assert_eq!(rt;
+        store
+            .begin_walk(1, walk, &data, &mut marks, &worths)
+            .number(),
+        0
+    );
+    for _ in 0..3 {
+        assert_eq!(rt;
+            store
+                .turn_walk(1, &mut data, &mut marks, &mut worths)
+                .number(),
+            100
+        );
+    }
+    let (worth, size) = worth_told(store.turn_walk(1, &mut data, &mut marks, &mut worths));
+    assert_eq!(rt; worth, 350);
+    assert_eq!(rt; size, 1);
+    assert_eq!(rt; store.begin(1, Call::Hand(1, 2), &data).number(), 0);
+    assert_eq!(rt; ended_at(store.turn(1, &mut data)), 2);
+    Ok(())
+}
