@@ -1,3 +1,6 @@
+ghost use Rattle.std.specs.Prelude.{◌≡◌};
+ghost use Rattle.store.specs.declared.errors.OpenError.TheVariants.{NoMemory};
+
 use refusals::Refusal;
 use std::alloc::AllocError;
 
@@ -9,6 +12,8 @@ pub enum OpenError {
 }
 
 impl From<AllocError> for OpenError {
+    ghost from_gives = { λ cause given. given ≡ NoMemory cause };
+
     fn from(e: AllocError) -> OpenError {
         OpenError::NoMemory(e)
     }
