@@ -1,41 +1,45 @@
 // Why a making or a call is turned down: one enum for the whole project, each case with its fixed number.
 #![tactic(auto)]
 
-ghost use Rattle.std.specs.Prelude.{◌≡◌};
+ghost use Rattle.std.specs.Prelude.{◌≡◌, Some};
 ghost use Rattle.refusals.specs.Numbers.{number_of};
+ghost use Rattle.refusals.specs.Shown.{refusal_text};
 
-#[derive(Clone, Copy, Debug)]
+use std::error::Error;
+use std::fmt;
+
+#[derive(Clone, Copy, Debug, PartialEq, Eq)]
 pub enum Refusal {
     // a count is outside its limits
-    OutsideLimits,
+    OutsideLimits = 1,
     // a search order's stride or card is bad
-    BadOrder,
+    BadOrder = 2,
     // a search order is made for another number
-    OrderOfAnotherSize,
+    OrderOfAnotherSize = 3,
     // no such party, or no such receiver
-    NoSuchParty,
+    NoSuchParty = 4,
     // no such slot or kid
-    NoSuchSlot,
+    NoSuchSlot = 5,
     // a list is shorter than the store has nodes
-    ShortList,
+    ShortList = 6,
     // data does not fit the kids given
-    DataDoesNotFit,
+    DataDoesNotFit = 7,
     // range, gear or temperature is outside its limits
-    BadSituation,
+    BadSituation = 8,
     // the party is running a call or walking
-    Busy,
+    Busy = 11,
     // there is no call, or no walk, to turn
-    NothingToTurn,
-    SlotEmpty,
+    NothingToTurn = 12,
+    SlotEmpty = 13,
     // the slot to fill is not empty
-    SlotFilled,
-    NoTrail,
+    SlotFilled = 14,
+    NoTrail = 15,
     // a trail stands, or was entered at the slot
-    TrailStands,
+    TrailStands = 16,
     // no kid there
-    NoKid,
-    InboxFull,
-    InboxEmpty,
+    NoKid = 17,
+    InboxFull = 18,
+    InboxEmpty = 19,
 }
 
 impl Refusal {
@@ -43,24 +47,16 @@ impl Refusal {
     pub fn number(self) -> u8
         ensures { result ≡ number_of self }
     {
-        match self {
-            Refusal::OutsideLimits => 1,
-            Refusal::BadOrder => 2,
-            Refusal::OrderOfAnotherSize => 3,
-            Refusal::NoSuchParty => 4,
-            Refusal::NoSuchSlot => 5,
-            Refusal::ShortList => 6,
-            Refusal::DataDoesNotFit => 7,
-            Refusal::BadSituation => 8,
-            Refusal::Busy => 11,
-            Refusal::NothingToTurn => 12,
-            Refusal::SlotEmpty => 13,
-            Refusal::SlotFilled => 14,
-            Refusal::NoTrail => 15,
-            Refusal::TrailStands => 16,
-            Refusal::NoKid => 17,
-            Refusal::InboxFull => 18,
-            Refusal::InboxEmpty => 19,
-        }
+        self as u8
+    }
+}
+
+impl Error for Refusal {}
+
+impl fmt::Display for Refusal {
+    ghost output = { λ e. Some (refusal_text e) };
+
+    fn fmt<W: fmt::Write>(&self, f: &mut fmt::Formatter<W>) -> fmt::Result {
+        write!(f, "refused with {}", self.number())
     }
 }
