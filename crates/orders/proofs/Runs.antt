@@ -1,14 +1,24 @@
 -- Picks of one party, one after another.
-use Rattle.std.proofs.Common.{ℕ, ◌<◌, ◌≤◌, List, [], ◌∷◌, ◌++◌, length, sym, inl, inr, arith}
+use Rattle.std.proofs.Common.{◌≡◌, ap, subst, ℕ, ◌<◌, ◌≤◌, List, [], ◌∷◌, ◌++◌, length, sym, inl, inr, arith}
 use Rattle.std.proofs.lemmas.Bool.{cases_eq}
 use Rattle.orders.specs.Limits.{IsParty}
 use Rattle.orders.specs.Meaning.{Picked, PickedInTurn, none, then, IsNumber, Among, EachComes}
 
 module _ {O : Type 0} (numbers horizon : O → ℕ) (due : O → ℕ → ℕ → ℕ) (p : ℕ) where
-  pub one_more : (o between o' : O) (answers : List ℕ) (answer : ℕ) → PickedInTurn numbers horizon due p o answers between
+  pub none_yet : (o : O) (answers : List ℕ) → answers ≡ [] → PickedInTurn numbers horizon due p o answers o
+  none_yet o [] e = none
+  none_yet o (x ∷ xs) e = absurd (omega (arith, ap length e))
+
+  pushed : (o between o' : O) (answers : List ℕ) (answer : ℕ) → PickedInTurn numbers horizon due p o answers between
       → Picked numbers horizon due between o' p answer → PickedInTurn numbers horizon due p o (answers ++ answer ∷ []) o'
-  one_more o _ o' _ answer none picked = then picked none
-  one_more o between o' _ answer (then first rest) picked = then first (one_more _ between o' _ answer rest picked)
+  pushed o _ o' _ answer none picked = then picked none
+  pushed o between o' _ answer (then first rest) picked = then first (pushed _ between o' _ answer rest picked)
+
+  pub one_more : (o between o' : O) (answers more : List ℕ) (answer : ℕ) → PickedInTurn numbers horizon due p o answers between
+      → Picked numbers horizon due between o' p answer → more ≡ answers ++ answer ∷ [] → PickedInTurn numbers horizon due p o more o'
+  one_more o between o' answers more answer run picked e =
+      let P : List ℕ → Type 0 = λ l. PickedInTurn numbers horizon due p o l o' in
+      subst P (sym e) (pushed o between o' answers answer run picked)
 
   comes_when_due : (o o' : O) (answers : List ℕ) → IsParty p → PickedInTurn numbers horizon due p o answers o'
       → (n : ℕ) → IsNumber (numbers o) n → due o p n < length answers → Among n answers

@@ -35,15 +35,10 @@ unfolding sum_to
 sum_split f g zero = refl
 sum_split f g (suc m) = omega (arith, sum_split f g m)
 
-sum_same : (f g : ℕ → ℕ) (m : ℕ) → ((n : ℕ) → f n ≡ g n) → sum_to f m ≡ sum_to g m
-unfolding sum_to
-sum_same f g zero h = refl
-sum_same f g (suc m) h = omega (arith, h (suc m), sum_same f g m h)
-
 -- one entry more on a card
 sum_cons : (m x : ℕ) (xs : List ℕ) → sum_to (times_on (x ∷ xs)) m ≡ hits x m + sum_to (times_on xs) m
 unfolding hits
-sum_cons m x xs = sum_same (times_on (x ∷ xs)) (λ n. cond (eqb x n) 1 0 + times_on xs n) m (times_cons x xs) ∙ sum_split (λ n. cond (eqb x n) 1 0) (times_on xs) m
+sum_cons m x xs = ap (λ f. sum_to f m) (λ i n. times_cons x xs n i) ∙ sum_split (λ n. cond (eqb x n) 1 0) (times_on xs) m
 
 sum_zero : (m : ℕ) → sum_to (λ n. 0) m ≡ 0
 unfolding sum_to

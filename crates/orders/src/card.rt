@@ -5,18 +5,17 @@ ghost use Rattle.orders.specs.Meaning.{IsNumber};
 ghost use Rattle.orders.specs.Rounds.{next_place, place_of, round_due, entry_at};
 ghost use Rattle.orders.specs.CardsLemmas.{card_dues_below};
 
-use crate::limits::{LARGEST_SIZE, Number, PARTIES, Party};
+use crate::limits::{Number, Party};
 use crate::order::Order;
 use crate::round::Round;
 use refusals::Refusal;
 
 // Goes along a card on which each number stands once, each party from a position of its own.
-#[derive(Drop)]
+#[derive(Debug, PartialEq, Eq, Drop)]
 pub struct Card {
     round: Round,
     entries: Vec<u32>,
-    ghost long: { length entries.items ≡ round.size },
-    ghost once: { (n : ℕ) → IsNumber round.size n → times_on entries.items n ≡ 1 },
+    ghost fits: { CardFits round.size entries.items },
 }
 
 impl Card {
@@ -25,23 +24,18 @@ impl Card {
     pub fn new(m: u32, entries: Vec<u32>) -> Result<Card, Refusal>
         ensures { MatchResult result (λ s. Made m (CardFits m entries.items) s.round.size s.round.places × (s.entries.items ≡ entries.items)) (λ e. RefusedBy m (CardFits m entries.items) e) }
     {
-        if m < 1 || m > LARGEST_SIZE {
-            return Err(Refusal::OutsideLimits);
-        }
+        let round = Round::start(m)?;
         if !fits(m, entries.as_slice()) {
             return Err(Refusal::BadOrder);
         }
-        Ok(Card {
-            round: Round::start(m as Number),
-            entries,
-        })
+        Ok(Card { round, entries })
     }
 
     fn entry(&self, place: Number) -> Number
         requires { IsNumber self.now.round.size place }
         ensures { result ≡ entry_at self.now.entries.items place }
     {
-        self.entries[(place - 1) as usize] as Number
+        self.entries[usize::from(place) - 1] as Number
     }
 }
 
@@ -55,7 +49,7 @@ impl Order for Card {
     ghost at_least_one = { λ o. o.round.some.0 };
 
     ghost due_below_span = { λ o p n is number.
-        card_dues_below o.round.size o.entries.items (record { entries = o.long; once = o.once })
+        card_dues_below o.round.size o.entries.items o.fits
         o.round.some.0 (place_of o.round.places p) n (o.round.placed p is) number };
 
     fn size(&self) -> Number {
@@ -63,7 +57,7 @@ impl Order for Card {
     }
 
     fn span(&self) -> u32 {
-        self.size() as u32
+        u32::from(self.size())
     }
 
     fn pick(&mut self, party: Party) -> Number
@@ -72,43 +66,20 @@ impl Order for Card {
         ensures same { (self.new.round.size ≡ self.old.round.size) × (self.new.entries ≡ self.old.entries) }
         ensures refused { (IsParty party → ⊥) → (result ≡ 0) × (self.new ≡ self.old) }
     {
-        if party < 1 || party as usize > PARTIES {
-            return 0;
-        }
-        let place = self.round.advance(party, 1);
-        self.entry(place)
+        self.round
+            .advance(party, 1)
+            .map_or(0, |place| self.entry(place))
     }
 }
 
 fn fits(m: u32, entries: &[u32]) -> bool
-    requires { m < 65536 }
     ensures { MatchBool result (CardFits m entries.now) (CardFits m entries.now → ⊥) }
 {
-    if entries.len() != m as usize {
-        return false;
-    }
-    for n in 1..m + 1 {
-        if !stands_once(entries, n) {
-            return false;
-        }
-    }
-    true
-}
-
-fn stands_once(entries: &[u32], n: u32) -> bool
-    ensures { MatchBool result (times_on entries.now n ≡ 1) (times_on entries.now n ≢ 1) }
-{
-    times_on(entries, n) == 1
+    entries.len() == m as usize && (1..=m).all(|n| times_on(entries, n) == 1)
 }
 
 fn times_on(entries: &[u32], n: u32) -> usize
     ensures { result ≡ times_on entries.now n }
 {
-    let mut times = 0;
-    for e in entries {
-        if *e == n {
-            times += 1;
-        }
-    }
-    times
+    entries.iter().filter(|e| **e == n).count()
 }

@@ -21,19 +21,7 @@ pub fn picks<O: Order>(
 {
     let mut answers = Vec::with_capacity(heap, times as usize)?;
     for _ in 0..times {
-        pick_onto(order, party, &mut answers);
+        answers.push_reserved(order.pick(party));
     }
     Ok(answers)
-}
-
-fn pick_onto<O: Order>(order: &mut O, party: Party, answers: &mut Vec<Number>) -> Number
-    requires { vec_len answers.old < vec_capacity answers.old }
-    ensures picked { Picked O.Order.numbers O.Order.horizon O.Order.due order.old order.new party result }
-    ensures items { answers.new.items ≡ answers.old.items ++ result ∷ [] }
-    ensures len { vec_len answers.new ≡ vec_len answers.old + 1 }
-    ensures capacity { vec_capacity answers.new ≡ vec_capacity answers.old }
-{
-    let answer = order.pick(party);
-    answers.push_reserved(answer);
-    answer
 }

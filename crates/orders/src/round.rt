@@ -1,13 +1,15 @@
-ghost use Rattle.std.specs.Prelude.{◌≡◌, ℕ, ◌+◌, ◌-◌, ◌%◌, ◌<◌, ◌≤◌, slice_set};
+ghost use Rattle.std.specs.Prelude.{◌≡◌, ℕ, ◌+◌, ◌-◌, ◌%◌, ◌<◌, ◌≤◌, slice_set, MatchResult, MatchOption, IfSome};
 ghost use Rattle.orders.specs.Limits.{IsParty, largest_size};
 ghost use Rattle.orders.specs.Meaning.{IsNumber};
-ghost use Rattle.orders.specs.Making.{AtStart};
+ghost use Rattle.orders.specs.Making.{AtStart, SizeFits};
+ghost use Rattle.refusals.specs.declared.Refusal.TheVariants.{OutsideLimits};
 ghost use Rattle.orders.specs.Rounds.{start_place, next_place, place_of};
 
-use crate::limits::{Number, PARTIES, Party};
+use crate::limits::{LARGEST_SIZE, Number, PARTIES, Party};
+use refusals::Refusal;
 
 // A round of places, with the place of each party on it.
-#[derive(Clone, Copy)]
+#[derive(Clone, Copy, Debug, PartialEq, Eq)]
 pub(crate) struct Round {
     pub(crate) size: Number,
     pub(crate) places: [Number; PARTIES],
@@ -16,30 +18,33 @@ pub(crate) struct Round {
 }
 
 impl Round {
-    // Every party at its start.
-    pub(crate) fn start(size: Number) -> Round
-        requires { (1 ≤ size) × (size ≤ largest_size) }
-        ensures { (result.size ≡ size) × (AtStart size result.places) }
+    // Every party at its start; refused for a size outside 1 to 255.
+    pub(crate) fn start(m: u32) -> Result<Round, Refusal>
+        ensures { MatchResult result (λ r. SizeFits m × (r.size ≡ m) × AtStart m r.places) (λ e. (e ≡ OutsideLimits) × (SizeFits m → ⊥)) }
     {
-        Round {
+        if !(1..=LARGEST_SIZE).contains(&m) {
+            return Err(Refusal::OutsideLimits);
+        }
+        let size = m as Number;
+        Ok(Round {
             size,
             places: starts(size),
-        }
+        })
     }
 
-    // Moves the party on by the stride, and tells its new place.
-    pub(crate) fn advance(&mut self, party: Party, stride: u32) -> Number
-        requires { (IsParty party) × (stride < 65536) }
+    // Moves the party on by the stride, and tells its new place; `None`, and nothing changed, for any other than the
+    // parties 1 to 15.
+    pub(crate) fn advance(&mut self, party: Party, stride: u32) -> Option<Number>
+        requires { stride < 65536 }
         ensures size { self.new.size ≡ self.old.size }
-        ensures places { self.new.places ≡ slice_set self.old.places (party - 1) result }
-        ensures placed { IsNumber self.old.size result }
-        ensures place { result ≡ next_place self.old.size stride (place_of self.old.places party) }
+        ensures moved { MatchOption result ((IsParty party → ⊥) × (self.new ≡ self.old)) (λ place. IsParty party × (place ≡ next_place self.old.size stride (place_of self.old.places party)) × (self.new.places ≡ slice_set self.old.places (party - 1) place)) }
+        ensures placed { IfSome result (λ place. IsNumber self.old.size place) }
     {
-        let i = (party - 1) as usize;
-        let from = self.places[i] as u32 - 1 + stride;
-        let next = (from % self.size as u32 + 1) as Number;
-        self.places[i] = next;
-        next
+        let index = usize::from(party).checked_sub(1)?;
+        let from = u32::from(*self.places.get(index)?) - 1 + stride;
+        let place = (from % u32::from(self.size) + 1) as Number;
+        self.places[index] = place;
+        Some(place)
     }
 }
 
@@ -47,16 +52,12 @@ fn starts(size: Number) -> [Number; PARTIES]
     requires { 1 ≤ size }
     ensures { AtStart size result }
 {
-    let mut places = [1; PARTIES];
-    for i in 0..PARTIES {
-        places[i] = start_place(i as Party + 1, size);
-    }
-    places
+    std::array::from_fn(|i| start_place(i as Party + 1, size))
 }
 
 fn start_place(party: Party, size: Number) -> Number
     requires { (IsParty party) × (1 ≤ size) }
     ensures { result ≡ start_place size party }
 {
-    (party as Number - 1) % size + 1
+    (party - 1) % size + 1
 }

@@ -4,13 +4,13 @@ ghost use Rattle.orders.specs.Making.{StrideFits, NoSharedFactor, RefusedBy, Mad
 ghost use Rattle.orders.specs.Rounds.{next_place, place_of, round_due};
 ghost use Rattle.orders.specs.RoundsLemmas.{dues_below};
 
-use crate::limits::{LARGEST_SIZE, LONGEST_STRIDE, Number, PARTIES, Party};
+use crate::limits::{LONGEST_STRIDE, Number, Party};
 use crate::order::Order;
 use crate::round::Round;
 use refusals::Refusal;
 
 // Goes round the numbers by a fixed stride, each party from a place of its own.
-#[derive(Clone, Copy)]
+#[derive(Clone, Copy, Debug, PartialEq, Eq)]
 pub struct Stride {
     round: Round,
     stride: u32,
@@ -24,16 +24,11 @@ impl Stride {
     pub fn new(m: u32, stride: u32) -> Result<Stride, Refusal>
         ensures { MatchResult result (λ s. Made m (StrideFits m stride) s.round.size s.round.places × (s.stride ≡ stride)) (λ e. RefusedBy m (StrideFits m stride) e) }
     {
-        if m < 1 || m > LARGEST_SIZE {
-            return Err(Refusal::OutsideLimits);
-        }
-        if stride < 1 || stride > LONGEST_STRIDE || shares_factor(stride, m) {
+        let round = Round::start(m)?;
+        if !(1..=LONGEST_STRIDE).contains(&stride) || shares_factor(stride, m) {
             return Err(Refusal::BadOrder);
         }
-        Ok(Stride {
-            round: Round::start(m as Number),
-            stride,
-        })
+        Ok(Stride { round, stride })
     }
 }
 
@@ -55,7 +50,7 @@ impl Order for Stride {
     }
 
     fn span(&self) -> u32 {
-        self.size() as u32
+        u32::from(self.size())
     }
 
     fn pick(&mut self, party: Party) -> Number
@@ -64,21 +59,13 @@ impl Order for Stride {
         ensures same { (self.new.round.size ≡ self.old.round.size) × (self.new.stride ≡ self.old.stride) }
         ensures refused { (IsParty party → ⊥) → (result ≡ 0) × (self.new ≡ self.old) }
     {
-        if party < 1 || party as usize > PARTIES {
-            return 0;
-        }
-        self.round.advance(party, self.stride)
+        self.round.advance(party, self.stride).unwrap_or(0)
     }
 }
 
 fn shares_factor(a: u32, b: u32) -> bool
-    requires { (1 ≤ b) × (b < 65536) }
+    requires { 1 ≤ b }
     ensures { MatchBool result (NoSharedFactor a b → ⊥) (NoSharedFactor a b) }
 {
-    for d in 2..b + 1 {
-        if a % d == 0 && b % d == 0 {
-            return true;
-        }
-    }
-    false
+    (2..=b).any(|d| a % d == 0 && b % d == 0)
 }
