@@ -1,8 +1,9 @@
 // A worked interleaving on the store's declared types: a Make and a Sweep that meet at one node.
+use kinds::kids::Kid;
 use kinds::maps::{Kpa, MapData};
-use model::nodes::{Kid, Node};
-use model::outcomes::{Answer, Outcome};
+use model::outcomes::{Answer, Outcome, Progress};
 use model::place::Place;
+use model::shown::outcome_number;
 use orders::limits::Party;
 
 // Party 1 makes, party 2 sweeps; both pick node 2. What the party is to do next, turn by turn: the Sweep has the lock, so the
@@ -29,45 +30,18 @@ const TURNS: [(Party, Place); 16] = [
 pub(crate) fn report(rt: &HostRuntime) -> anyhow::Result<()> {
     println!(rt; "a Make and a Sweep that meet at node 2")?;
     for (party, place) in TURNS {
-        println!(rt; "  party {party} is to {}", doing(place))?;
+        println!(rt; "  party {party} is to {place}")?;
     }
-    told(rt, "the Sweep", Outcome::Ended(Answer::Swept(2, 1)))?;
-    told(rt, "the Make", Outcome::Ended(Answer::AtNode(2)))?;
-    told(rt, "a Make under way", Outcome::StillRunning)
-}
-
-fn doing(place: Place) -> &'static str {
-    match place {
-        Place::OpenTray => "open its tray",
-        Place::ReadTray => "read its tray",
-        Place::LookForNode => "look for a node",
-        Place::LockNode(_) => "lock the node",
-        Place::Recheck(_) => "recheck the node's count",
-        Place::UnlockAndGoBack(_) => "unlock the node and go back",
-        Place::ReadKid(_, _) => "read a kid",
-        Place::ClearKid(_, _, _) => "clear the kid",
-        Place::UncountKid(_, _, _) => "uncount the kid",
-        Place::Claim(_) => "claim the node",
-        Place::Unlock(_) => "unlock the node",
-        Place::Offer(_) => "offer the node",
-        Place::KeepForOneself(_) => "keep the node for itself",
-        Place::GiveBack(_) => "give the node back",
-        Place::CloseTray(_) => "close its tray",
-        Place::WriteData(_) => "write the node's data",
-        Place::CountKid(_, _) => "count a kid",
-        Place::LinkKid(_, _, _) => "link the kid",
-    }
+    told(rt, "the Sweep", Ok(Progress::Ended(Answer::Swept(2, 1))))?;
+    told(rt, "the Make", Ok(Progress::Ended(Answer::AtNode(2))))?;
+    told(rt, "a Make under way", Ok(Progress::StillRunning))
 }
 
 fn told(rt: &HostRuntime, who: &str, outcome: Outcome<MapData, Kpa>) -> anyhow::Result<()> {
-    let (node, receiver) = named(outcome);
-    println!(rt; "  {who}: {} {node} {receiver}", outcome.number())?;
-    Ok(())
-}
-
-fn named(outcome: Outcome<MapData, Kpa>) -> (Node, Party) {
-    match outcome {
-        Outcome::Ended(answer) => (answer.node(), answer.receiver()),
+    let (node, receiver) = match &outcome {
+        Ok(Progress::Ended(answer)) => (answer.node(), answer.receiver()),
         _ => (0, 0),
-    }
+    };
+    println!(rt; "  {who}: {} {node} {receiver}", outcome_number(&outcome))?;
+    Ok(())
 }

@@ -6,7 +6,6 @@ mod interleaving_report;
 mod maps_report;
 mod orders_report;
 mod traces_report;
-mod turned_down;
 
 use figures::figures::figures_that_hold;
 

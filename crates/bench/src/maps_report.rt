@@ -1,10 +1,17 @@
-use crate::turned_down::refused;
 use figures::pressures::line_pressure;
 use kinds::codes::Code;
 use kinds::gearbox::Situation;
-use kinds::given::Given;
+use kinds::kids::PerKid;
 use kinds::kind::Kind;
 use kinds::maps::{Kpa, MapData, Maps};
+
+// Name, code and the kids' worths.
+const NODES: [(&'static str, Code, Kpa, Kpa, Kpa); 4] = [
+    ("scaled", Code::Scaled, 7, 50, 0),
+    ("scaled", Code::Scaled, -7, 50, 0),
+    ("sum", Code::Sum, 900_000, 200_000, 0),
+    ("held", Code::Held, 5, 10, 3),
+];
 
 pub(crate) fn report(rt: &HostRuntime) -> anyhow::Result<()> {
     println!(rt; "shift maps")?;
@@ -23,47 +30,24 @@ pub(crate) fn report(rt: &HostRuntime) -> anyhow::Result<()> {
 }
 
 fn nodes(rt: &HostRuntime) -> anyhow::Result<()> {
-    node(rt, "scaled", Code::Scaled, 7, 50, 0)?;
-    node(rt, "scaled", Code::Scaled, -7, 50, 0)?;
-    node(rt, "sum", Code::Sum, 900_000, 200_000, 0)?;
-    node(rt, "held", Code::Held, 5, 10, 3)
-}
-
-fn node(
-    rt: &HostRuntime,
-    name: &str,
-    code: Code,
-    first: Kpa,
-    second: Kpa,
-    third: Kpa,
-) -> anyhow::Result<()> {
-    let data = MapData {
-        code: code.number(),
-        number: 0,
-    };
-    match Situation::new(0, 1, 20) {
-        Ok(s) => println!(rt;
+    let s = Situation::new(0, 1, 20)?;
+    for (name, code, first, second, third) in NODES {
+        let kids = PerKid {
+            first,
+            second,
+            third,
+        };
+        println!(rt;
             "  {name} {first}, {second}, {third}: {} kPa",
-            Maps::work_out(data, s, first, second, third)
-        )?,
-        Err(refusal) => refused(rt, refusal)?,
+            Maps::work_out(MapData::new(code, 0), s, kids)
+        )?;
     }
     Ok(())
 }
 
 fn number(rt: &HostRuntime, number: i32) -> anyhow::Result<()> {
-    let none = Given {
-        first: false,
-        second: false,
-        third: false,
-    };
-    let answer = if Maps::fits(
-        MapData {
-            code: Code::Number.number(),
-            number,
-        },
-        none,
-    ) {
+    let data = MapData::new(Code::Number, number);
+    let answer = if Maps::fits(data, PerKid::all(false)) {
         "fits"
     } else {
         "does not fit"
@@ -73,14 +57,11 @@ fn number(rt: &HostRuntime, number: i32) -> anyhow::Result<()> {
 }
 
 fn bytes(rt: &HostRuntime, number: i32) -> anyhow::Result<()> {
-    let (byte, word) = Maps::to_bytes(MapData {
-        code: Code::Number.number(),
-        number,
-    });
-    let back = Maps::from_bytes(byte, word);
+    let (byte, word) = Maps::to_bytes(MapData::new(Code::Number, number));
+    let [a, b, c, d] = word;
     println!(rt;
-        "  number {number} as bytes: {byte}, {} {} {} {}, and back: {}",
-        word[0], word[1], word[2], word[3], back.number
+        "  number {number} as bytes: {byte}, {a} {b} {c} {d}, and back: {}",
+        Maps::from_bytes(byte, word).number
     )?;
     Ok(())
 }
@@ -89,7 +70,7 @@ fn pressure(rt: &HostRuntime, range: i32, gear: i32, temperature: i32) -> anyhow
     print!(rt; "  line pressure, range {range}, gear {gear}, oil {temperature} C: ")?;
     match Situation::new(range, gear, temperature) {
         Ok(s) => println!(rt; "{} kPa", line_pressure(s))?,
-        Err(refusal) => refused(rt, refusal)?,
+        Err(refusal) => println!(rt; "{refusal}")?,
     }
     Ok(())
 }

@@ -1,9 +1,9 @@
-use crate::turned_down::refused;
 use orders::card::Card;
 use orders::limits::Party;
 use orders::order::Order;
 use orders::picks::picks;
 use orders::stride::Stride;
+use refusals::Refusal;
 
 // Size, stride, party and how many picks.
 const STRIDES: [(u32, u32, Party, u32); 9] = [
@@ -39,36 +39,32 @@ pub(crate) fn report(rt: &HostRuntime) -> anyhow::Result<()> {
 
 fn stride(rt: &HostRuntime, m: u32, stride: u32, party: Party, times: u32) -> anyhow::Result<()> {
     print!(rt; "  stride order, m {m}, stride {stride}: ")?;
-    match Stride::new(m, stride) {
-        Ok(mut order) => answers(rt, &mut order, party, times)?,
-        Err(refusal) => refused(rt, refusal)?,
-    }
-    Ok(())
+    answers(rt, Stride::new(m, stride), party, times)
 }
 
 fn card(rt: &HostRuntime, m: u32, entries: &[u32], party: Party, times: u32) -> anyhow::Result<()> {
     print!(rt; "  card order, m {m}, card")?;
     for e in entries {
-        print!(rt; " {}", *e)?;
+        print!(rt; " {e}")?;
     }
     print!(rt; ": ")?;
-    match Card::new(m, entries.to_vec(rt.alloc())?) {
-        Ok(mut order) => answers(rt, &mut order, party, times)?,
-        Err(refusal) => refused(rt, refusal)?,
-    }
-    Ok(())
+    answers(rt, Card::new(m, entries.to_vec(rt.alloc())?), party, times)
 }
 
-fn answers<O: Order>(
+fn answers<O: Order + Drop>(
     rt: &HostRuntime,
-    order: &mut O,
+    made: Result<O, Refusal>,
     party: Party,
     times: u32,
 ) -> anyhow::Result<()> {
+    let mut order = match made {
+        Ok(order) => order,
+        Err(refusal) => return Ok(println!(rt; "{refusal}")?),
+    };
     print!(rt; "span {}, party {party} picks", order.span())?;
-    let numbers = picks(order, party, times, rt.alloc())?;
-    for n in numbers.iter() {
-        print!(rt; " {}", *n)?;
+    let numbers = picks(&mut order, party, times, rt.alloc())?;
+    for n in &numbers {
+        print!(rt; " {n}")?;
     }
     println!(rt; "")?;
     Ok(())

@@ -1,5 +1,5 @@
-use crate::turned_down::refused;
 use kinds::gearbox::Situation;
+use kinds::kids::PerKid;
 use kinds::kind::Kind;
 use kinds::traces::{TraceData, Traces, Worst};
 
@@ -28,17 +28,13 @@ pub(crate) fn report(rt: &HostRuntime) -> anyhow::Result<()> {
 }
 
 fn worst(rt: &HostRuntime, data: TraceData, kid: Worst) -> anyhow::Result<()> {
-    print!(rt;
-        "  severity {}, hour {} over severity {}, hour {}: ",
-        data.severity, data.hour, kid.severity, kid.hour
+    let mut kids = PerKid::all(Traces::blank());
+    kids.first = kid;
+    println!(rt;
+        "  severity {}, hour {} over {kid}: {}",
+        data.severity,
+        data.hour,
+        Traces::work_out(data, Situation::new(0, 1, 20)?, kids)
     )?;
-    match Situation::new(0, 1, 20) {
-        Ok(s) => {
-            let blank = Traces::blank();
-            let worst = Traces::work_out(data, s, kid, blank, blank);
-            println!(rt; "severity {}, hour {}", worst.severity, worst.hour)?;
-        }
-        Err(refusal) => refused(rt, refusal)?,
-    }
     Ok(())
 }

@@ -1,18 +1,14 @@
 -- The view of new cells is a new store.
-use Rattle.std.proofs.Common.{◌≡◌, ℕ, zero, suc, true, List, replicate, is_err, IfOk, Ok, Err, Result, refl, ap, ◌∙◌, inl, inr, arith}
+use Rattle.std.proofs.Common.{◌≡◌, ℕ, zero, suc, List, replicate, refl, ap, ◌∙◌, inl, inr, arith}
 use mathlib.Core.Path.{fun_ext}
 use Rattle.std.proofs.lemmas.List.{get_or-replicate, get_or_past, length-replicate}
-use Rattle.std.proofs.lemmas.Bool.{cases_lt, false≢true}
+use Rattle.std.proofs.lemmas.Bool.{cases_lt}
 use Rattle.model.specs.Entries.{nth}
+use Rattle.model.specs.Party.{new_record}
 use Rattle.model.specs.State.{Store, new_store}
+use Rattle.model.specs.declared.party.PartyRecord.{PartyRecord}
 use Rattle.cells.specs.declared.records.NodeWords.{NodeWords}
-use Rattle.cells.specs.declared.records.PartyRecord.{PartyRecord}
-use Rattle.cells.specs.View.{new_words, new_record, seen}
-
--- a failed making promises nothing of what was to be made
-pub err_made : {V E : Type 0} (r : Result V E) (P : V → Type 0) → is_err r ≡ true → IfOk r P
-err_made (Ok v) P e = absurd (false≢true e)
-err_made (Err x) P e = tt
+use Rattle.cells.specs.View.{new_words, seen}
 
 all_alike : {A : Type 0} (n : ℕ) (d : A) (k : ℕ) → nth d (replicate n d) k ≡ d
 all_alike n d zero = refl

@@ -1,6 +1,6 @@
-pub mod Paths
 pub mod Views
+pub mod Begun
 pub mod Puts
 pub mod Stepping
-pub mod Begun
 pub mod Fresh
+pub mod Room

@@ -1,4 +1,5 @@
 pub mod View
+pub mod Own
 pub mod Ready
 pub mod Started
 pub mod Walked

@@ -3,11 +3,11 @@
 use Rattle.std.specs.Prelude.{◌≡◌, ℕ, Bool, true, cond, ◌&&◌, Some, None, Option, nat_lt}
 use Rattle.orders.specs.Limits.{largest_size}
 use Rattle.model.specs.declared.words.Address.{Address}
-use Rattle.model.specs.declared.words.Address.TheVariants.{Nowhere, CountOf, LockOf, KidOf, DataOf, InboxOf, TrayOf}
 use Rattle.model.specs.declared.words.Change.{Change}
-use Rattle.model.specs.declared.words.Change.TheVariants.{Stays, Fills, Lengthens}
 use Rattle.model.specs.declared.words.Decision.{Decision}
 use Rattle.model.specs.declared.words.Told.{Told}
+use Rattle.model.specs.declared.words.Address.TheVariants.{Nowhere, CountOf, LockOf, KidOf, DataOf, InboxOf, TrayOf}
+use Rattle.model.specs.declared.words.Change.TheVariants.{Stays, Fills, Lengthens}
 use Rattle.model.specs.State.{Trail, Store}
 use Rattle.model.specs.Steps.{between, loaded, looks_at, decision, stepped, data_after}
 use Rattle.model.specs.Checks.{last_slot}

@@ -1,11 +1,11 @@
 -- What a Begin makes of its party's trail and of what the party runs.
 use Rattle.std.specs.Prelude.{ℕ, []}
 use Rattle.model.specs.declared.calls.Call.{Call}
+use Rattle.model.specs.declared.running.Running.{Running}
 use Rattle.model.specs.declared.calls.Call.TheVariants.{Enter, Up, Leave, Read, Down, Keep, Drop, Hand, Fetch, Make, Sweep}
 use Rattle.model.specs.declared.place.Place.TheVariants.{OpenTray, LookForNode}
 use Rattle.model.specs.declared.running.Job.TheVariants.{Makes, Sweeps}
 use Rattle.model.specs.declared.running.Reading.TheVariants.{ReadNothing}
-use Rattle.model.specs.declared.running.Running.{Running}
 use Rattle.model.specs.declared.running.Running.TheVariants.{Reads, GoesDown, Keeps, Drops, Hands, Fetches, Works}
 use Rattle.model.specs.Begins.{kid_of}
 use Rattle.model.specs.State.{Trail, no_trail, along, shorter}

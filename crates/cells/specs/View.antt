@@ -1,21 +1,15 @@
 -- The lists of node words and party records as the model's store.
-use Rattle.std.specs.Prelude.{◌≡◌, ℕ, replicate, vec_items, vec_len}
-use Rattle.model.specs.declared.tray.Tray.TheVariants.{Closed}
-use Rattle.model.specs.declared.running.Running.TheVariants.{Idle}
+use Rattle.std.specs.Prelude.{◌≡◌, ℕ, vec_items, vec_len}
 use Rattle.model.specs.Entries.{nth}
-use Rattle.model.specs.Checks.{last_slot}
+use Rattle.model.specs.Party.{new_record}
 use Rattle.model.specs.State.{Store, empty_kids, trail_of}
-use Rattle.orders.specs.Limits.{largest_size}
+use Rattle.model.specs.declared.party.PartyRecord.{PartyRecord}
 use Rattle.cells.specs.declared.records.NodeWords.{NodeWords}
-use Rattle.cells.specs.declared.records.PartyRecord.{PartyRecord}
 use Rattle.cells.specs.declared.records.Cells.{Cells}
 
--- what a node and a party of a new store hold
+-- what a node of a new store holds
 abbrev pub new_words : NodeWords
 new_words = record { count = 0; lock = 0; kids = empty_kids }
-
-abbrev pub new_record : {D : Type 0} → PartyRecord D
-new_record = record { slots = replicate last_slot 0; inbox = 0; tray = Closed; trail = record { entered = 0; length = 0; nodes = replicate largest_size 0 }; running = Idle }
 
 -- the store whose node n has the words f n, and whose party q the record g q
 abbrev pub seen : {D : Type 0} → (ℕ → NodeWords) → (ℕ → PartyRecord D) → Store D
@@ -50,3 +44,8 @@ nodes_of c = vec_len c.nodes
 pub record SameSizes {D : Type 0} (before after : Cells D) : Type 0 where
   pub parties : parties_of after ≡ parties_of before
   pub nodes : nodes_of after ≡ nodes_of before
+
+-- as many parties and nodes as before, which hold what the store says
+pub record Becomes {D : Type 0} (before after : Cells D) (s : Store D) : Type 0 where
+  pub view : view_of after ≡ s
+  pub sizes : SameSizes before after

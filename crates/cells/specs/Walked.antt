@@ -1,7 +1,6 @@
 -- Where a walk goes once it has read a node: down to a kid, or up.
 use Rattle.std.specs.Prelude.{ℕ, Some, None, Option}
-use Rattle.kinds.specs.declared.gearbox.Situation.{Situation}
-use Rattle.model.specs.declared.nodes.Kid.{Kid}
+use Rattle.model.specs.Types.{Kid, Situation}
 use Rattle.model.specs.declared.running.Running.{Running}
 use Rattle.model.specs.declared.running.Running.TheVariants.{WalkGoesDown}
 use Rattle.model.specs.State.{Trail, shorter, Store, set_trail, set_run}

@@ -7,6 +7,5 @@ mod reading;
 pub mod records;
 mod starting;
 mod table;
-mod trails;
 mod walking;
 mod words;

@@ -1,27 +1,15 @@
 // What a store holds of each node and each party, in plain lists.
-use model::nodes::{Kids, Node, SLOTS};
-use model::running::Running;
-use model::trail::Trail;
-use model::tray::Tray;
+use model::nodes::Kids;
+use model::party::PartyRecord;
 use model::words::Count;
 use orders::limits::Party;
 
 // The shared words of a node but its data, which lies in the caller's list.
-#[derive(Clone, Copy)]
+#[derive(Clone, Copy, Debug, PartialEq, Eq)]
 pub struct NodeWords {
     pub count: Count,
     pub lock: Party,
     pub kids: Kids,
-}
-
-// What a party has: slots, inbox and tray, its trail, and the call that it is running.
-#[derive(Clone, Copy)]
-pub struct PartyRecord<D> {
-    pub slots: [Node; SLOTS],
-    pub inbox: Node,
-    pub tray: Tray,
-    pub trail: Trail,
-    pub running: Running<D>,
 }
 
 // The records of all parties; party p's stands at p - 1.

@@ -1,44 +1,32 @@
 // What an accepted Begin changes of its party's record.
-ghost use Rattle.std.specs.Prelude.{◌≡◌, if◌then◌else◌};
+ghost use Rattle.std.specs.Prelude.{◌≡◌, [], Ok, Err, if◌then◌else◌};
+ghost use Rattle.refusals.specs.declared.Refusal.TheVariants.{NoSuchParty};
 ghost use Rattle.model.specs.Begins.{kid_of, started, started_walk};
 ghost use Rattle.model.specs.Entries.{nth};
-ghost use Rattle.model.specs.State.{trail_of};
+ghost use Rattle.model.specs.State.{along, trail_of};
 ghost use Rattle.model.specs.Steps.{between};
+ghost use Rattle.model.specs.declared.running.Reading.TheVariants.{ReadNothing};
+ghost use Rattle.model.specs.declared.running.Running.TheVariants.{WalkReads};
+ghost use Rattle.cells.specs.Own.{Holds};
 ghost use Rattle.cells.specs.Started.{run_begun, trail_begun};
-ghost use Rattle.cells.specs.View.{view_of, parties_of, SameSizes};
+ghost use Rattle.cells.specs.View.{view_of, parties_of, Becomes};
 
 use crate::records::Cells;
-use crate::trails::{enter, leave, shorten};
 use kinds::gearbox::Situation;
+use kinds::kids::Kid;
 use model::calls::Call;
-use model::nodes::{Kid, Node, SLOTS, Slot};
+use model::nodes::Slot;
+use model::party::PartyRecord;
 use model::place::Place;
 use model::running::{Job, Reading, Running};
-use model::trail::Trail;
 use orders::limits::Party;
-use step::slots::node_of;
+use refusals::Refusal;
 
-// Kids are numbered from 1.
+// The kid of the number. What no kid is numbered by has been refused by then.
 fn kid_numbered(k: u8) -> Kid
     ensures { result ≡ kid_of k }
 {
-    match k {
-        1 => Kid::First,
-        2 => Kid::Second,
-        _ => Kid::Third,
-    }
-}
-
-// Enter, Up and Leave change the trail; no other call does at its Begin.
-fn begin_trail<D: Copy>(trail: &mut Trail, call: &Call<D>, slots: &[Node; SLOTS])
-    ensures { trail_of trail.new ≡ trail_begun call.now (nth 0 slots.now) (trail_of trail.old) }
-{
-    match *call {
-        Call::Enter(i) => enter(trail, i, node_of(slots, i)),
-        Call::Up => shorten(trail),
-        Call::Leave => leave(trail),
-        _ => {}
-    }
+    Kid::try_from(k).unwrap_or(Kid::Third)
 }
 
 // What the party runs once its call has begun; Enter, Up and Leave have ended by then.
@@ -46,9 +34,7 @@ fn begin_running<D: Copy>(running: Running<D>, call: &Call<D>) -> Running<D>
     ensures { result ≡ run_begun call.now running }
 {
     match *call {
-        Call::Enter(_) => running,
-        Call::Up => running,
-        Call::Leave => running,
+        Call::Enter(_) | Call::Up | Call::Leave => running,
         Call::Read => Running::Reads(Reading::ReadNothing),
         Call::Down(k) => Running::GoesDown(kid_numbered(k)),
         Call::Keep(i) => Running::Keeps(i),
@@ -60,36 +46,58 @@ fn begin_running<D: Copy>(running: Running<D>, call: &Call<D>) -> Running<D>
     }
 }
 
-impl<D: Copy> Cells<D> {
-    // The party begins the call. Nothing happens for what is no party; the answer tells which.
-    pub fn start(&mut self, party: Party, call: &Call<D>) -> bool
-        ensures told { result ≡ between 1 (parties_of self.old) party }
-        ensures view { view_of self.new ≡ (if between 1 (parties_of self.old) party then started call.now (view_of self.old) party else view_of self.old) }
-        ensures sizes { SameSizes self.old self.new }
-    {
-        if party < 1 || party as usize > self.table.records.len() {
-            return false;
+// The call begins; Enter, Up and Leave change the trail.
+fn begin<D: Copy>(own: &mut PartyRecord<D>, call: &Call<D>)
+    ensures { Holds own.old own.new (nth 0 own.old.slots) (trail_begun call.now (nth 0 own.old.slots) (trail_of own.old.trail)) (run_begun call.now own.old.running) }
+{
+    own.running = begin_running(own.running, call);
+    match *call {
+        Call::Enter(i) => {
+            let node = own.node_of(i);
+            own.trail.enter(i, node);
         }
-        let record = self.table.lend(party);
-        let slots = record.slots;
-        begin_trail(&mut record.trail, call, &slots);
-        record.running = begin_running(record.running, call);
-        true
+        Call::Up => own.trail.shorten(),
+        Call::Leave => own.trail.leave(),
+        _ => {}
+    }
+}
+
+// A walk begins from the slot.
+fn begin_walk<D: Copy>(own: &mut PartyRecord<D>, slot: Slot, situation: Situation)
+    ensures { Holds own.old own.new (nth 0 own.old.slots) (along slot (nth 0 own.old.slots slot) []) (WalkReads situation ReadNothing) }
+{
+    let node = own.node_of(slot);
+    own.trail.enter(slot, node);
+    own.running = Running::WalkReads(situation, Reading::ReadNothing);
+}
+
+impl<D: Copy> Cells<D> {
+    // The party begins the call. What is no party is refused, and nothing changes.
+    pub fn start(&mut self, party: Party, call: &Call<D>) -> Result<(), Refusal>
+        ensures told { result ≡ (if between 1 (parties_of self.old) party then Ok tt else Err NoSuchParty) }
+        ensures becomes { Becomes self.old self.new (if between 1 (parties_of self.old) party then started call.now (view_of self.old) party else view_of self.old) }
+    {
+        let Some(record) = self.table.lend(party) else {
+            return Err(Refusal::NoSuchParty);
+        };
+        begin(record, call);
+        Ok(())
     }
 
-    // The party begins a walk from the slot. Nothing happens for what is no party; the answer tells which.
-    pub fn start_walk(&mut self, party: Party, slot: Slot, situation: Situation) -> bool
-        ensures told { result ≡ between 1 (parties_of self.old) party }
-        ensures view { view_of self.new ≡ (if between 1 (parties_of self.old) party then started_walk slot situation (view_of self.old) party else view_of self.old) }
-        ensures sizes { SameSizes self.old self.new }
+    // The party begins a walk from the slot. What is no party is refused, and nothing changes.
+    pub fn start_walk(
+        &mut self,
+        party: Party,
+        slot: Slot,
+        situation: Situation,
+    ) -> Result<(), Refusal>
+        ensures told { result ≡ (if between 1 (parties_of self.old) party then Ok tt else Err NoSuchParty) }
+        ensures becomes { Becomes self.old self.new (if between 1 (parties_of self.old) party then started_walk slot situation (view_of self.old) party else view_of self.old) }
     {
-        if party < 1 || party as usize > self.table.records.len() {
-            return false;
-        }
-        let record = self.table.lend(party);
-        let node = node_of(&record.slots, slot);
-        enter(&mut record.trail, slot, node);
-        record.running = Running::WalkReads(situation, Reading::ReadNothing);
-        true
+        let Some(record) = self.table.lend(party) else {
+            return Err(Refusal::NoSuchParty);
+        };
+        begin_walk(record, slot, situation);
+        Ok(())
     }
 }

@@ -1,25 +1,37 @@
--- The first fault of a call, of a Make and of a walk by their party's slots and trail.
-use Rattle.std.specs.Prelude.{ℕ, Bool, true, Option}
+-- What it is to be accepted, and the first fault of a Begin, of a call and of a walk by their party's record.
+use Rattle.std.specs.Prelude.{◌≡◌, ℕ, Bool, not, [], ◌∷◌, Some, None, Option, Result, MatchResult, ◌==◌}
 use Rattle.refusals.specs.declared.Refusal.{Refusal}
-use Rattle.kinds.specs.declared.given.Given.{Given}
+use Rattle.refusals.specs.declared.Refusal.TheVariants.{NoSuchSlot, SlotEmpty, TrailStands}
+use Rattle.kinds.specs.declared.kids.PerKid.{PerKid}
+use Rattle.model.specs.declared.calls.Asked.{Asked}
 use Rattle.model.specs.declared.calls.Call.{Call}
-use Rattle.model.specs.declared.calls.Call.TheVariants.{Make}
+use Rattle.model.specs.declared.calls.Lengths.{Lengths}
 use Rattle.model.specs.declared.calls.Walk.{Walk}
-use Rattle.model.specs.declared.running.Plan.{Plan}
-use Rattle.model.specs.State.{Trail, no_trail}
-use Rattle.model.specs.Checks.{first_fault, call_faults, walk_faults}
+use Rattle.model.specs.declared.party.PartyRecord.{PartyRecord}
+use Rattle.model.specs.declared.sizes.Sizes.{Sizes}
+use Rattle.model.specs.Entries.{nth}
+use Rattle.model.specs.State.{trail_of}
+use Rattle.model.specs.Checks.{begin_fault, call_faults, first_fault, is_idle, no_slot, walk_faults}
 
-module _ {D : Type 0} (suits : D → Given → Bool) where
-  abbrev pub call_fault : Call D → (ℕ → ℕ) → Trail → Option Refusal
-  call_fault c slots t = first_fault (call_faults suits c slots t)
+-- accepted where there is no fault, and else refused with it
+abbrev pub AcceptedUnless : {T : Type 0} → Option Refusal → Result T Refusal → Type 0
+AcceptedUnless fault r = MatchResult r (λ _. fault ≡ None) (λ e. fault ≡ Some e)
 
-  -- a Make asks nothing of the trail
-  abbrev pub make_fault : Plan D → (ℕ → ℕ) → Option Refusal
-  make_fault plan slots = first_fault (call_faults suits (Make plan) slots no_trail)
+module _ {D : Type 0} (suits : D → PerKid Bool → Bool) where
+  -- the fault of a Begin
+  abbrev pub begin_fault_of : Sizes → ℕ → Asked D → Lengths → PartyRecord D → Option Refusal
+  begin_fault_of sizes p asked lengths party =
+      begin_fault suits sizes.parties sizes.nodes (not (is_idle party.running)) p asked lengths (nth 0 party.slots) (trail_of party.trail)
 
--- where there is no data, it does not matter which data suits
-abbrev pub dataless_fault : Call ℕ → (ℕ → ℕ) → Trail → Option Refusal
-dataless_fault c slots t = call_fault (λ d kids. true) c slots t
+  -- of a call, once the party, the lists and what it is running are looked at
+  abbrev pub call_fault_of : Call D → PartyRecord D → Option Refusal
+  call_fault_of c party = first_fault (call_faults suits c (nth 0 party.slots) (trail_of party.trail))
 
-abbrev pub walk_fault : Walk → (ℕ → ℕ) → Trail → Option Refusal
-walk_fault w slots t = first_fault (walk_faults {D = ℕ} (λ d kids. true) w slots t)
+  -- of a walk, likewise
+  abbrev pub walk_fault_of : Walk → PartyRecord D → Option Refusal
+  walk_fault_of w party = first_fault (walk_faults suits w (nth 0 party.slots) (trail_of party.trail))
+
+-- of taking the slot's node, where a trail may be in the way
+abbrev pub taking_fault_of : {D : Type 0} → ℕ → Bool → PartyRecord D → Option Refusal
+taking_fault_of i in_the_way party =
+    first_fault ((no_slot i, NoSuchSlot) ∷ (in_the_way, TrailStands) ∷ ((nth 0 party.slots i == 0), SlotEmpty) ∷ [])

@@ -1,45 +1,72 @@
-ghost use Rattle.std.specs.Prelude.{◌≡◌};
-ghost use Rattle.model.specs.Checks.{begin_fault};
-ghost use Rattle.checks.specs.Lengths.{lengths_of};
-ghost use Rattle.model.specs.Entries.{nth};
-ghost use Rattle.model.specs.State.{trail_of};
+ghost use Rattle.std.specs.Prelude.{◌≡◌, not, [], ◌∷◌, IfOk};
+ghost use Rattle.refusals.specs.declared.Refusal.TheVariants.{Busy};
+ghost use Rattle.kinds.specs.Situations.{Describes};
+ghost use Rattle.model.specs.declared.calls.Asked.TheVariants.{AsksCall, AsksWalk};
+ghost use Rattle.model.specs.Checks.{first_fault, is_idle, no_receiver};
+ghost use Rattle.checks.specs.Faults.{AcceptedUnless, begin_fault_of};
 
-use crate::calls::call_fault;
-use crate::lists::too_short;
-use crate::parties::{no_party, no_receiver};
-use crate::walks::walk_fault;
+use crate::calls::check_call;
+use crate::refuse::refuse_if;
+use crate::walks::check_walk;
+use kinds::gearbox::Situation;
 use kinds::kind::Kind;
-use model::calls::{Asked, Lengths};
-use model::nodes::{Node, SLOTS};
-use model::trail::Trail;
+use model::calls::{Call, Lengths, Walk};
+use model::party::PartyRecord;
+use model::running::Running;
+use model::sizes::Sizes;
 use orders::limits::Party;
 use refusals::Refusal;
 
-// What a Begin is refused with: first for the numbers and lists that it names, then for a call under way, then for the
-// party's slots and trail.
-pub fn begin_fault<K: Kind>(
-    asked: &Asked<K::Data>,
+// What the Begin of a call is refused with: first for the numbers and lists that it names, then for a call under way, then
+// for the party's slots and trail.
+pub fn check_begin<K: Kind>(
+    call: &Call<K::Data>,
     party: Party,
     lengths: Lengths,
-    busy: bool,
-    slots: &[Node; SLOTS],
-    trail: &Trail,
-    parties: Party,
-    nodes: Node,
-) -> Option<Refusal>
-    ensures { result ≡ begin_fault K.Kind.suits parties nodes busy party asked.now (lengths_of lengths) (nth 0 slots.now) (trail_of trail.now) }
+    record: &PartyRecord<K::Data>,
+    sizes: Sizes,
+) -> Result<(), Refusal>
+    ensures { AcceptedUnless (begin_fault_of K.Kind.suits sizes party (AsksCall call.now) lengths «record».now) result }
 {
-    if no_party(party, parties) || no_receiver(asked, parties) {
-        return Some(Refusal::NoSuchParty);
+    refuse_if(
+        !sizes.has_party(party) || no_receiver(call, sizes),
+        Refusal::NoSuchParty,
+    )?;
+    refuse_if(!lengths.covers_call(sizes.nodes), Refusal::ShortList)?;
+    check_idle(&record.running)?;
+    check_call::<K>(call, record)
+}
+
+// Only a Hand has a receiver.
+fn no_receiver<D: Copy>(call: &Call<D>, sizes: Sizes) -> bool
+    ensures { result ≡ no_receiver sizes.parties (AsksCall call.now) }
+{
+    match *call {
+        Call::Hand(_, q) => !sizes.has_party(q),
+        _ => false,
     }
-    if too_short(asked, lengths, nodes) {
-        return Some(Refusal::ShortList);
-    }
-    if busy {
-        return Some(Refusal::Busy);
-    }
-    match *asked {
-        Asked::AsksCall(call) => call_fault::<K>(&call, slots, trail),
-        Asked::AsksWalk(walk) => walk_fault(walk, slots, trail),
-    }
+}
+
+// What the Begin of a walk is refused with, in the same order; accepted it goes by the situation of its numbers.
+pub fn check_begin_walk<K: Kind>(
+    walk: Walk,
+    party: Party,
+    lengths: Lengths,
+    record: &PartyRecord<K::Data>,
+    sizes: Sizes,
+) -> Result<Situation, Refusal>
+    ensures fault { AcceptedUnless (begin_fault_of K.Kind.suits sizes party (AsksWalk walk) lengths «record».now) result }
+    ensures situation { IfOk result (λ s. Describes s walk.range walk.gear walk.temperature) }
+{
+    refuse_if(!sizes.has_party(party), Refusal::NoSuchParty)?;
+    refuse_if(!lengths.covers_walk(sizes.nodes), Refusal::ShortList)?;
+    check_idle(&record.running)?;
+    check_walk::<K>(walk, record)
+}
+
+// A party runs one call at a time.
+fn check_idle<D: Copy>(running: &Running<D>) -> Result<(), Refusal>
+    ensures { AcceptedUnless (first_fault ((not (is_idle running.now), Busy) ∷ [])) result }
+{
+    refuse_if(!running.is_idle(), Refusal::Busy)
 }

@@ -1,68 +1,60 @@
-ghost use Rattle.std.specs.Prelude.{◌≡◌};
-ghost use Rattle.model.specs.Entries.{nth};
+ghost use Rattle.std.specs.Prelude.{[], ◌∷◌, not};
+ghost use Rattle.refusals.specs.declared.Refusal.TheVariants.{NoSuchSlot, NoTrail};
+ghost use Rattle.model.specs.Checks.{first_fault, is_none};
 ghost use Rattle.model.specs.State.{trail_of};
-ghost use Rattle.checks.specs.Faults.{call_fault, dataless_fault};
+ghost use Rattle.model.specs.Steps.{between};
+ghost use Rattle.checks.specs.Faults.{AcceptedUnless, call_fault_of};
 
-use crate::first::first_of;
-use crate::makes::make_fault;
-use crate::slots::{is_empty, no_slot};
-use crate::trails::{entered_at, no_trail};
+use crate::makes::check_make;
+use crate::refuse::refuse_if;
+use crate::slots::{check_empty, check_slot, check_taking};
+use kinds::kids::Kid;
 use kinds::kind::Kind;
 use model::calls::Call;
-use model::nodes::{Node, SLOTS, Slot};
+use model::party::PartyRecord;
 use model::trail::Trail;
 use refusals::Refusal;
 
-// A node has this many kids, numbered from 1.
-const KIDS: u8 = 3;
-
-// What a call is refused for by its party's slots and trail.
-pub(crate) fn call_fault<K: Kind>(
+// What a call asks of its party's slots and trail.
+pub(crate) fn check_call<K: Kind>(
     call: &Call<K::Data>,
-    slots: &[Node; SLOTS],
-    trail: &Trail,
-) -> Option<Refusal>
-    ensures { result ≡ call_fault K.Kind.suits call.now (nth 0 slots.now) (trail_of trail.now) }
+    record: &PartyRecord<K::Data>,
+) -> Result<(), Refusal>
+    ensures { AcceptedUnless (call_fault_of K.Kind.suits call.now «record».now) result }
 {
     match *call {
-        Call::Enter(i) => enter_fault(i, slots, trail),
-        Call::Up | Call::Leave | Call::Read => first_of(&[(no_trail(trail), Refusal::NoTrail)]),
-        Call::Down(k) => first_of(&[
-            (k < 1 || k > KIDS, Refusal::NoSuchSlot),
-            (no_trail(trail), Refusal::NoTrail),
-        ]),
-        Call::Keep(i) => first_of(&[
-            (no_slot(i), Refusal::NoSuchSlot),
-            (no_trail(trail), Refusal::NoTrail),
-            (!is_empty(slots, i), Refusal::SlotFilled),
-        ]),
-        Call::Drop(i) | Call::Hand(i, _) => give_away_fault(i, slots, trail),
-        Call::Fetch(i) => first_of(&[
-            (no_slot(i), Refusal::NoSuchSlot),
-            (!is_empty(slots, i), Refusal::SlotFilled),
-        ]),
-        Call::Make(plan) => make_fault::<K>(&plan, slots),
-        Call::Sweep => None,
+        Call::Enter(i) => check_taking(i, !record.trail.is_none(), record),
+        Call::Up | Call::Leave | Call::Read => check_trail(&record.trail),
+        Call::Down(k) => {
+            check_kid(k)?;
+            check_trail(&record.trail)
+        }
+        Call::Keep(i) => {
+            check_slot(i)?;
+            check_trail(&record.trail)?;
+            check_empty(i, record)
+        }
+        // both empty their slot, which no trail may then have been entered at
+        Call::Drop(i) | Call::Hand(i, _) => check_taking(i, record.trail.entered_at(i), record),
+        Call::Fetch(i) => {
+            check_slot(i)?;
+            check_empty(i, record)
+        }
+        Call::Make(plan) => check_make::<K>(&plan, record),
+        Call::Sweep => Ok(()),
     }
 }
 
-fn enter_fault(i: Slot, slots: &[Node; SLOTS], trail: &Trail) -> Option<Refusal>
-    ensures { result ≡ dataless_fault (Call.Enter i) (nth 0 slots.now) (trail_of trail.now) }
+// Kids are numbered from 1.
+fn check_kid(k: u8) -> Result<(), Refusal>
+    ensures { AcceptedUnless (first_fault ((not (between 1 3 k), NoSuchSlot) ∷ [])) result }
 {
-    first_of(&[
-        (no_slot(i), Refusal::NoSuchSlot),
-        (!no_trail(trail), Refusal::TrailStands),
-        (is_empty(slots, i), Refusal::SlotEmpty),
-    ])
+    Kid::try_from(k)?;
+    Ok(())
 }
 
-// A Drop and a Hand empty their slot, which no trail may then have been entered at.
-fn give_away_fault(i: Slot, slots: &[Node; SLOTS], trail: &Trail) -> Option<Refusal>
-    ensures { result ≡ dataless_fault (Call.Drop i) (nth 0 slots.now) (trail_of trail.now) }
+fn check_trail(trail: &Trail) -> Result<(), Refusal>
+    ensures { AcceptedUnless (first_fault ((is_none (trail_of trail.now), NoTrail) ∷ [])) result }
 {
-    first_of(&[
-        (no_slot(i), Refusal::NoSuchSlot),
-        (entered_at(trail, i), Refusal::TrailStands),
-        (is_empty(slots, i), Refusal::SlotEmpty),
-    ])
+    refuse_if(trail.is_none(), Refusal::NoTrail)
 }

@@ -3,11 +3,8 @@
 
 pub mod begins;
 mod calls;
-mod first;
-mod lists;
 mod makes;
-mod parties;
+mod refuse;
 mod slots;
-mod trails;
 pub mod turns;
 mod walks;

@@ -1,33 +1,34 @@
 ghost use Rattle.std.specs.Prelude.{◌≡◌, ◌||◌};
+ghost use Rattle.model.specs.declared.calls.Call.TheVariants.{Make};
 ghost use Rattle.model.specs.Checks.{given_by, kid_slot_empty, no_kid_slot};
 ghost use Rattle.model.specs.Entries.{nth};
-ghost use Rattle.checks.specs.Faults.{make_fault};
+ghost use Rattle.checks.specs.Faults.{AcceptedUnless, call_fault_of};
 
-use crate::first::first_of;
-use crate::slots::{is_empty, kid_slot_empty, no_kid_slot, no_slot};
-use kinds::given::Given;
+use crate::refuse::refuse_if;
+use crate::slots::{check_empty, check_slot};
+use kinds::kids::PerKid;
 use kinds::kind::Kind;
-use model::nodes::{Kids, Node, SLOTS};
+use model::nodes::{Kids, SLOTS, Slot};
+use model::party::PartyRecord;
 use model::running::Plan;
 use refusals::Refusal;
 
-// What a Make is refused for by its party's slots. The kids of a plan are the slots that are to give them.
-pub(crate) fn make_fault<K: Kind>(plan: &Plan<K::Data>, slots: &[Node; SLOTS]) -> Option<Refusal>
-    ensures { result ≡ make_fault K.Kind.suits plan.now (nth 0 slots.now) }
+// What a Make asks of its party's slots. The kids of a plan are the slots that are to give them.
+pub(crate) fn check_make<K: Kind>(
+    plan: &Plan<K::Data>,
+    record: &PartyRecord<K::Data>,
+) -> Result<(), Refusal>
+    ensures { AcceptedUnless (call_fault_of K.Kind.suits (Make plan.now) «record».now) result }
 {
     let kids = plan.kids;
-    first_of(&[
-        (
-            no_slot(plan.slot) || some_kid_slot_missing(kids),
-            Refusal::NoSuchSlot,
-        ),
-        (some_kid_slot_empty(kids, slots), Refusal::SlotEmpty),
-        (!is_empty(slots, plan.slot), Refusal::SlotFilled),
-        (
-            !K::fits(plan.given, given_by(kids)),
-            Refusal::DataDoesNotFit,
-        ),
-    ])
+    check_slot(plan.slot)?;
+    refuse_if(some_kid_slot_missing(kids), Refusal::NoSuchSlot)?;
+    refuse_if(some_kid_slot_empty(kids, record), Refusal::SlotEmpty)?;
+    check_empty(plan.slot, record)?;
+    refuse_if(
+        !K::fits(plan.given, given_by(kids)),
+        Refusal::DataDoesNotFit,
+    )
 }
 
 fn some_kid_slot_missing(kids: Kids) -> bool
@@ -36,19 +37,33 @@ fn some_kid_slot_missing(kids: Kids) -> bool
     no_kid_slot(kids.first) || no_kid_slot(kids.second) || no_kid_slot(kids.third)
 }
 
-fn some_kid_slot_empty(kids: Kids, slots: &[Node; SLOTS]) -> bool
-    ensures { result ≡ kid_slot_empty (nth 0 slots.now) kids.first || (kid_slot_empty (nth 0 slots.now) kids.second || kid_slot_empty (nth 0 slots.now) kids.third) }
+// 0 is no slot, and asks for no kid.
+fn no_kid_slot(i: Slot) -> bool
+    ensures { result ≡ no_kid_slot i }
 {
-    kid_slot_empty(slots, kids.first)
-        || kid_slot_empty(slots, kids.second)
-        || kid_slot_empty(slots, kids.third)
+    usize::from(i) > SLOTS
+}
+
+fn some_kid_slot_empty<D: Copy>(kids: Kids, record: &PartyRecord<D>) -> bool
+    ensures { result ≡ kid_slot_empty (nth 0 «record».now.slots) kids.first || (kid_slot_empty (nth 0 «record».now.slots) kids.second || kid_slot_empty (nth 0 «record».now.slots) kids.third) }
+{
+    kid_slot_empty(kids.first, record)
+        || kid_slot_empty(kids.second, record)
+        || kid_slot_empty(kids.third, record)
+}
+
+// A kid is asked for from a slot that has none to give.
+fn kid_slot_empty<D: Copy>(i: Slot, record: &PartyRecord<D>) -> bool
+    ensures { result ≡ kid_slot_empty (nth 0 «record».now.slots) i }
+{
+    i != 0 && record.node_of(i) == 0
 }
 
 // Which kids the Make is given.
-fn given_by(kids: Kids) -> Given
+fn given_by(kids: Kids) -> PerKid<bool>
     ensures { result ≡ given_by kids }
 {
-    Given {
+    PerKid {
         first: kids.first != 0,
         second: kids.second != 0,
         third: kids.third != 0,

@@ -1,32 +1,37 @@
-ghost use Rattle.std.specs.Prelude.{◌≡◌, ◌==◌};
-ghost use Rattle.model.specs.Checks.{kid_slot_empty, no_kid_slot, no_slot};
+ghost use Rattle.std.specs.Prelude.{not, [], ◌∷◌, ◌==◌};
+ghost use Rattle.refusals.specs.declared.Refusal.TheVariants.{NoSuchSlot, SlotFilled};
+ghost use Rattle.model.specs.Checks.{first_fault, no_slot};
 ghost use Rattle.model.specs.Entries.{nth};
+ghost use Rattle.checks.specs.Faults.{AcceptedUnless, taking_fault_of};
 
-use model::nodes::{Node, SLOTS, Slot};
-use step::slots::node_of;
+use crate::refuse::refuse_if;
+use model::nodes::{SLOTS, Slot};
+use model::party::PartyRecord;
+use refusals::Refusal;
 
-pub(crate) fn no_slot(i: Slot) -> bool
-    ensures { result ≡ no_slot i }
+// Slots go by numbers from 1.
+pub(crate) fn check_slot(i: Slot) -> Result<(), Refusal>
+    ensures { AcceptedUnless (first_fault ((no_slot i, NoSuchSlot) ∷ [])) result }
 {
-    i < 1 || i as usize > SLOTS
+    refuse_if(!(1..=SLOTS).contains(&usize::from(i)), Refusal::NoSuchSlot)
 }
 
-// 0 is no slot, and asks for no kid.
-pub(crate) fn no_kid_slot(i: Slot) -> bool
-    ensures { result ≡ no_kid_slot i }
+// A slot is filled only while it is empty.
+pub(crate) fn check_empty<D: Copy>(i: Slot, record: &PartyRecord<D>) -> Result<(), Refusal>
+    ensures { AcceptedUnless (first_fault ((not (nth 0 «record».now.slots i == 0), SlotFilled) ∷ [])) result }
 {
-    i as usize > SLOTS
+    refuse_if(record.node_of(i) != 0, Refusal::SlotFilled)
 }
 
-pub(crate) fn is_empty(slots: &[Node; SLOTS], i: Slot) -> bool
-    ensures { result ≡ ((nth 0 slots.now i) == 0) }
+// A slot's node is taken only while no trail is in the way.
+pub(crate) fn check_taking<D: Copy>(
+    i: Slot,
+    in_the_way: bool,
+    record: &PartyRecord<D>,
+) -> Result<(), Refusal>
+    ensures { AcceptedUnless (taking_fault_of i in_the_way «record».now) result }
 {
-    node_of(slots, i) == 0
-}
-
-// A kid is asked for from a slot that has none to give.
-pub(crate) fn kid_slot_empty(slots: &[Node; SLOTS], i: Slot) -> bool
-    ensures { result ≡ kid_slot_empty (nth 0 slots.now) i }
-{
-    i != 0 && is_empty(slots, i)
+    check_slot(i)?;
+    refuse_if(in_the_way, Refusal::TrailStands)?;
+    refuse_if(record.node_of(i) == 0, Refusal::SlotEmpty)
 }

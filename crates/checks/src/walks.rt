@@ -1,32 +1,24 @@
-ghost use Rattle.std.specs.Prelude.{◌≡◌, not};
-ghost use Rattle.kinds.specs.Situations.{in_limits};
-ghost use Rattle.model.specs.Entries.{nth};
-ghost use Rattle.model.specs.State.{trail_of};
-ghost use Rattle.checks.specs.Faults.{walk_fault};
+ghost use Rattle.std.specs.Prelude.{IfOk};
+ghost use Rattle.kinds.specs.Situations.{Describes};
+ghost use Rattle.checks.specs.Faults.{AcceptedUnless, walk_fault_of};
 
-use crate::first::first_of;
-use crate::slots::{is_empty, no_slot};
-use crate::trails::no_trail;
+use crate::slots::{check_slot, check_taking};
 use kinds::gearbox::Situation;
+use kinds::kind::Kind;
 use model::calls::Walk;
-use model::nodes::{Node, SLOTS};
-use model::trail::Trail;
+use model::party::PartyRecord;
 use refusals::Refusal;
 
-// What a walk is refused for by its party's slots and trail.
-pub(crate) fn walk_fault(walk: Walk, slots: &[Node; SLOTS], trail: &Trail) -> Option<Refusal>
-    ensures { result ≡ walk_fault walk (nth 0 slots.now) (trail_of trail.now) }
+// What a walk asks of its numbers and of its party's slots and trail.
+pub(crate) fn check_walk<K: Kind>(
+    walk: Walk,
+    record: &PartyRecord<K::Data>,
+) -> Result<Situation, Refusal>
+    ensures fault { AcceptedUnless (walk_fault_of K.Kind.suits walk «record».now) result }
+    ensures situation { IfOk result (λ s. Describes s walk.range walk.gear walk.temperature) }
 {
-    first_of(&[
-        (no_slot(walk.slot), Refusal::NoSuchSlot),
-        (no_situation(walk), Refusal::BadSituation),
-        (!no_trail(trail), Refusal::TrailStands),
-        (is_empty(slots, walk.slot), Refusal::SlotEmpty),
-    ])
-}
-
-fn no_situation(walk: Walk) -> bool
-    ensures { result ≡ not (in_limits walk.range walk.gear walk.temperature) }
-{
-    Situation::new(walk.range, walk.gear, walk.temperature).is_err()
+    check_slot(walk.slot)?;
+    let situation = Situation::new(walk.range, walk.gear, walk.temperature)?;
+    check_taking(walk.slot, !record.trail.is_none(), record)?;
+    Ok(situation)
 }

@@ -36,11 +36,11 @@ nine : SizeFits 9
 nine = record { low = omega arith; high = omega arith }
 
 card_once : (n : ℕ) → IsNumber 3 n → times_on card n ≡ 1
-card_once zero is = absurd (omega (arith, is))
+card_once zero is = omega arith
 card_once (suc zero) is = refl
 card_once (suc (suc zero)) is = refl
 card_once (suc (suc (suc zero))) is = refl
-card_once (suc (suc (suc (suc n)))) is = absurd (omega (arith, is))
+card_once (suc (suc (suc (suc n)))) is = omega arith
 
 refused_as_two : (other : List ℤ) → refusing 9 3 other → other ≡ pos 2 ∷ []
 refused_as_two other (e, inl outside, is) = absurd (outside.1 nine)
@@ -50,7 +50,7 @@ pub each_holds : EachHolds figures
 each_holds = (
   ((nine, stride_four, refl), λ other given. given.2),
   (
-    (((BadOrder, inr (refl, nine, stride_three), refl)), refused_as_two),
+    ((BadOrder, inr (refl, nine, stride_three), refl), refused_as_two),
     (
       ((record { low = omega arith; high = omega arith }, stride_one, refl), λ other given. given.2),
       (

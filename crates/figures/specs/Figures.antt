@@ -4,8 +4,7 @@ use Rattle.refusals.specs.Numbers.{number_of}
 use Rattle.refusals.specs.declared.Refusal.{Refusal}
 use Rattle.orders.specs.Making.{SizeFits, StrideFits, CardFits, RefusedBy}
 use Rattle.orders.specs.Rounds.{start_place, entry_at}
-use Rattle.kinds.specs.Codes.{code_number}
-use Rattle.kinds.specs.Maps.{map_fits, map_worth}
+use Rattle.kinds.specs.Maps.{map_data, map_fits, map_worth}
 use Rattle.kinds.specs.Traces.{trace_worth, no_trace}
 use Rattle.kinds.specs.declared.codes.Code.{Code}
 use Rattle.kinds.specs.declared.codes.Code.TheVariants.{Number, Sum, Scaled, Held}
@@ -37,11 +36,11 @@ refusing m stride given = (e : Refusal) × RefusedBy m (StrideFits m stride) e �
 
 -- a node's worth in every situation
 abbrev pub worth_of : Code → ℤ → ℤ → ℤ → List ℤ → Type 0
-worth_of code a b c given = (s : Situation) → given ≡ map_worth (record { code = code_number code; number = pos 0 }) s a b c ∷ []
+worth_of code a b c given = (s : Situation) → given ≡ map_worth (map_data code (pos 0)) s a b c ∷ []
 
 -- whether a number without kids fits, 1 for yes and 0 for no
 abbrev pub number_fitting : ℕ → ℤ
-number_fitting n = cond (map_fits (record { code = code_number Number; number = pos n }) (record { first = false; second = false; third = false })) (pos 1) (pos 0)
+number_fitting n = cond (map_fits (map_data Number (pos n)) (record { first = false; second = false; third = false })) (pos 1) (pos 0)
 
 -- the worst of a trace node over one kid, in every situation
 abbrev pub worst_over : TraceData → Worst → List ℤ → Type 0

@@ -1,6 +1,6 @@
 // Tables of worths, fits, picks and refusals, with their edges.
 use kinds::gearbox::Situation;
-use kinds::given::Given;
+use kinds::kids::PerKid;
 use kinds::kind::Kind;
 use kinds::maps::{Kpa, MapData, Maps};
 use kinds::traces::{TraceData, Traces, Worst};
@@ -61,10 +61,12 @@ const WORTHS: [(u8, i32, Kpa, Kpa, Kpa, Kpa); 40] = [
 fn worths(rt: HostRuntime) -> Result<(), Fail> {
     let s = Situation::new(0, 3, -7)?;
     for (code, number, first, second, third, expected) in WORTHS {
-        assert_eq!(rt;
-            Maps::work_out(MapData { code, number }, s, first, second, third),
-            expected
-        );
+        let kids = PerKid {
+            first,
+            second,
+            third,
+        };
+        assert_eq!(rt; Maps::work_out(MapData { code, number }, s, kids), expected);
     }
     Ok(())
 }
@@ -89,58 +91,37 @@ const FITS: [(u8, i32, [bool; 3], bool); 14] = [
 
 #[test]
 fn fits(rt: HostRuntime) {
-    for (code, number, given, expected) in FITS {
-        let kids = Given {
-            first: given[0],
-            second: given[1],
-            third: given[2],
+    for (code, number, [first, second, third], expected) in FITS {
+        let given = PerKid {
+            first,
+            second,
+            third,
         };
-        assert_eq!(rt; Maps::fits(MapData { code, number }, kids), expected);
+        assert_eq!(rt; Maps::fits(MapData { code, number }, given), expected);
     }
 }
 
 #[test]
 fn traces(rt: HostRuntime) -> Result<(), Fail> {
     let s = Situation::new(1, 16, 150)?;
-    let none = Traces::blank();
-    let edge = Traces::work_out(
-        TraceData {
-            severity: 9,
-            hour: 2_000_000,
-        },
-        s,
-        none,
-        none,
-        none,
-    );
-    assert!(rt; edge.severity == 9 && edge.hour == 2_000_000);
-    let late = Traces::work_out(
-        TraceData {
-            severity: 9,
-            hour: 2_000_001,
-        },
-        s,
-        edge,
-        edge,
-        edge,
-    );
-    assert!(rt; late.severity == 0 && late.hour == 0);
-    let third = Worst {
-        severity: 7,
-        hour: 8,
-    };
-    let split = Traces::work_out(
-        TraceData {
-            severity: 1,
-            hour: 9,
-        },
-        s,
-        none,
-        none,
-        third,
-    );
-    assert!(rt; split.severity == 7 && split.hour == 9);
+    let none = PerKid::all(Traces::blank());
+    let edge = Traces::work_out(trace(9, 2_000_000), s, none);
+    assert_eq!(rt; edge, worst(9, 2_000_000));
+    let late = Traces::work_out(trace(9, 2_000_001), s, PerKid::all(edge));
+    assert_eq!(rt; late, worst(0, 0));
+    let mut kids = none;
+    kids.third = worst(7, 8);
+    let split = Traces::work_out(trace(1, 9), s, kids);
+    assert_eq!(rt; split, worst(7, 9));
     Ok(())
+}
+
+fn trace(severity: u8, hour: u32) -> TraceData {
+    TraceData { severity, hour }
+}
+
+fn worst(severity: u8, hour: u32) -> Worst {
+    Worst { severity, hour }
 }
 
 #[test]

@@ -1,6 +1,6 @@
 -- The codes of map data, each with its number, and how many kids each takes.
 use Rattle.std.specs.Prelude.{ℕ, Bool, true, false, cond, not, ◌&&◌, List, [], ◌∷◌, ◌++◌, replicate, Some, None, Option, ◌==◌, nat_le, slice_index}
-use Rattle.kinds.specs.declared.given.Given.{Given}
+use Rattle.kinds.specs.declared.kids.PerKid.{PerKid}
 use Rattle.kinds.specs.declared.codes.Code.{Code}
 use Rattle.kinds.specs.declared.codes.Code.TheVariants.{Number, Range, Gear, Temperature, Negated, Sum, Difference, Smaller, Larger, Scaled, Choose, Held}
 
@@ -41,5 +41,5 @@ same true b = b
 same false b = not b
 
 -- exactly the first n kids are given
-abbrev pub first_given : ℕ → Given → Bool
+abbrev pub first_given : ℕ → PerKid Bool → Bool
 first_given n kids = same kids.first (nat_le 1 n) && (same kids.second (nat_le 2 n) && same kids.third (nat_le 3 n))

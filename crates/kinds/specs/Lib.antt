@@ -1,7 +1,9 @@
 pub mod Limits
 pub mod Situations
 pub mod Bytes
+pub mod Kids
 pub mod Codes
+pub mod Decoding
 pub mod Maps
 pub mod Traces
 pub mod FirstKids

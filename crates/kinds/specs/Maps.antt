@@ -5,11 +5,15 @@ use Rattle.kinds.specs.Bytes.{four_bytes, value_of, complement, signed}
 use Rattle.kinds.specs.Codes.{code_number, code_of, kids_taken, first_given}
 use Rattle.kinds.specs.Limits.{smallest, largest, between}
 use Rattle.kinds.specs.Situations.{range_number}
-use Rattle.kinds.specs.declared.given.Given.{Given}
+use Rattle.kinds.specs.declared.kids.PerKid.{PerKid}
 use Rattle.kinds.specs.declared.codes.Code.{Code}
 use Rattle.kinds.specs.declared.codes.Code.TheVariants.{Number, Range, Gear, Temperature, Negated, Sum, Difference, Smaller, Larger, Scaled, Choose, Held}
 use Rattle.kinds.specs.declared.maps.MapData.{MapData}
 use Rattle.kinds.specs.declared.gearbox.Situation.{Situation}
+
+-- the data of a node of a listed code
+abbrev pub map_data : Code → ℤ → MapData
+map_data code number = record { code = code_number code; number = number }
 
 abbrev pub is_zero : ℤ → Bool
 is_zero (pos n) = n == 0
@@ -38,11 +42,11 @@ exactly Held number s a b c = int_max b (int_min a c)
 abbrev pub limited : ℤ → ℤ
 limited z = int_max smallest (int_min z largest)
 
-abbrev pub fits_as : Option Code → ℤ → Given → Bool
+abbrev pub fits_as : Option Code → ℤ → PerKid Bool → Bool
 fits_as None number kids = false
 fits_as (Some code) number kids = number_fits code number && first_given (kids_taken code) kids
 
-abbrev pub map_fits : MapData → Given → Bool
+abbrev pub map_fits : MapData → PerKid Bool → Bool
 map_fits d kids = fits_as (code_of d.code) d.number kids
 
 abbrev pub worth_as : Option Code → ℤ → Situation → ℤ → ℤ → ℤ → ℤ

@@ -1,5 +1,6 @@
--- Fault traces: what trace data fits, and the worst of a node and its kids.
-use Rattle.std.specs.Prelude.{ℕ, ◌^◌, ◌<◌, max, Bool, cond, ◌&&◌, List, nat_le}
+-- Fault traces: what trace data fits, the worst of a node and its kids, and how that is written out.
+use Rattle.std.specs.Prelude.{ℕ, ◌^◌, ◌<◌, max, Bool, cond, ◌&&◌, List, ◌++◌, codes, nat_le}
+use Rattle.std.specs.Fmt.{decimal}
 use Rattle.kinds.specs.Bytes.{four_bytes, value_of}
 use Rattle.kinds.specs.Limits.{greatest_severity, latest_hour}
 use Rattle.kinds.specs.declared.gearbox.Situation.{Situation}
@@ -11,6 +12,9 @@ trace_fits d = nat_le d.severity greatest_severity && nat_le d.hour latest_hour
 
 abbrev pub no_trace : Worst
 no_trace = record { severity = 0; hour = 0 }
+
+abbrev pub worst_text : Worst → List ℕ
+worst_text worst = codes "severity " ++ decimal worst.severity ++ codes ", hour " ++ decimal worst.hour
 
 abbrev pub greatest : ℕ → ℕ → ℕ → ℕ → ℕ
 greatest own a b c = max (max own a) (max b c)

@@ -1,24 +1,30 @@
 ghost use Rattle.std.specs.Prelude.{◌≡◌, ◌<◌};
-ghost use Rattle.kinds.specs.Codes.{code_number, code_of, kids_taken, first_given};
+ghost use Rattle.kinds.specs.Codes.{code_number, kids_taken, first_given};
 
-use crate::given::Given;
+use crate::kids::PerKid;
+use std::error::Error;
+use std::fmt;
 
-// What a node of a shift map does.
-#[derive(Clone, Copy)]
+// What a node of a shift map does, each with the number by which it goes in map data.
+#[derive(Clone, Copy, Debug, PartialEq, Eq)]
 pub enum Code {
-    Number,
-    Range,
-    Gear,
-    Temperature,
-    Negated,
-    Sum,
-    Difference,
-    Smaller,
-    Larger,
-    Scaled,
-    Choose,
-    Held,
+    Number = 0,
+    Range = 1,
+    Gear = 2,
+    Temperature = 3,
+    Negated = 8,
+    Sum = 16,
+    Difference = 17,
+    Smaller = 18,
+    Larger = 19,
+    Scaled = 20,
+    Choose = 24,
+    Held = 25,
 }
+
+// A number that is no listed code.
+#[derive(Clone, Copy, Debug, PartialEq, Eq)]
+pub struct UnlistedCode(pub u8);
 
 // How many kids the codes 0 to 31 take.
 const KIDS_TAKEN: [u8; 32] = [
@@ -31,54 +37,60 @@ impl Code {
         ensures value { result ≡ code_number self }
         ensures bound { result < 32 }
     {
-        match self {
-            Code::Number => 0,
-            Code::Range => 1,
-            Code::Gear => 2,
-            Code::Temperature => 3,
-            Code::Negated => 8,
-            Code::Sum => 16,
-            Code::Difference => 17,
-            Code::Smaller => 18,
-            Code::Larger => 19,
-            Code::Scaled => 20,
-            Code::Choose => 24,
-            Code::Held => 25,
-        }
-    }
-
-    // The code of a number, if it is listed.
-    pub fn of(number: u8) -> Option<Code>
-        ensures { result ≡ code_of number }
-    {
-        match number {
-            0 => Some(Code::Number),
-            1 => Some(Code::Range),
-            2 => Some(Code::Gear),
-            3 => Some(Code::Temperature),
-            8 => Some(Code::Negated),
-            16 => Some(Code::Sum),
-            17 => Some(Code::Difference),
-            18 => Some(Code::Smaller),
-            19 => Some(Code::Larger),
-            20 => Some(Code::Scaled),
-            24 => Some(Code::Choose),
-            25 => Some(Code::Held),
-            _ => None,
-        }
+        self as u8
     }
 
     // How many kids a node of this code has: its first ones.
     pub fn kids_taken(self) -> u8
         ensures { result ≡ kids_taken self }
     {
-        KIDS_TAKEN[self.number() as usize]
+        KIDS_TAKEN[usize::from(self.number())]
     }
 }
 
+// The code of a number, if it is listed.
+impl TryFrom<u8> for Code {
+    type Error = UnlistedCode;
+
+    ghost use Rattle.kinds.specs.Decoding.{Decodes};
+
+    ghost try_from_gives = { Decodes };
+
+    fn try_from(number: u8) -> Result<Code, UnlistedCode> {
+        match number {
+            0 => Ok(Code::Number),
+            1 => Ok(Code::Range),
+            2 => Ok(Code::Gear),
+            3 => Ok(Code::Temperature),
+            8 => Ok(Code::Negated),
+            16 => Ok(Code::Sum),
+            17 => Ok(Code::Difference),
+            18 => Ok(Code::Smaller),
+            19 => Ok(Code::Larger),
+            20 => Ok(Code::Scaled),
+            24 => Ok(Code::Choose),
+            25 => Ok(Code::Held),
+            _ => Err(UnlistedCode(number)),
+        }
+    }
+}
+
+impl fmt::Display for UnlistedCode {
+    ghost use Rattle.std.specs.Prelude.{Some};
+    ghost use Rattle.kinds.specs.Decoding.{unlisted_text};
+
+    ghost output = { λ e. Some (unlisted_text e) };
+
+    fn fmt<W: fmt::Write>(&self, f: &mut fmt::Formatter<W>) -> fmt::Result {
+        write!(f, "no code is {}", self.0)
+    }
+}
+
+impl Error for UnlistedCode {}
+
 // Whether exactly the first kids are given, so many of them.
-pub(crate) fn first_given(count: u8, kids: Given) -> bool
-    ensures { result ≡ first_given count kids }
+pub(crate) fn first_given(count: u8, given: PerKid<bool>) -> bool
+    ensures { result ≡ first_given count given }
 {
-    kids.first == (count >= 1) && kids.second == (count >= 2) && kids.third == (count >= 3)
+    given.first == (count >= 1) && given.second == (count >= 2) && given.third == (count >= 3)
 }

@@ -3,7 +3,7 @@
 
 pub mod codes;
 pub mod gearbox;
-pub mod given;
+pub mod kids;
 pub mod kind;
 pub mod maps;
 mod situation;

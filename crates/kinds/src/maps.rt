@@ -1,7 +1,6 @@
 ghost use Rattle.std.specs.Prelude.{◌≡◌, ◌<◌, pos, ◌+ℤ◌, ◌-ℤ◌, ◌*ℤ◌, if◌then◌else◌, Some, int_div};
 ghost use Rattle.std.proofs.Common.{ap, ◌∙◌, rules};
-ghost use Rattle.kinds.specs.Situations.{range_number};
-ghost use Rattle.kinds.specs.Maps.{number_fits, exactly, limited, is_zero, worth_as, map_fits, map_worth, map_bytes, map_from, MapStorable};
+ghost use Rattle.kinds.specs.Maps.{number_fits, exactly, limited, is_zero, worth_as, map_fits, map_worth, map_data, map_bytes, map_from, MapStorable};
 ghost use Rattle.kinds.specs.Codes.{code_of};
 ghost use Rattle.kinds.specs.MapsKindLemmas.{unfit};
 ghost use Rattle.std.proofs.lemmas.Int.{of_z-to_z};
@@ -10,18 +9,30 @@ ghost use Rattle.kinds.specs.Bytes.{value_of, four_bytes};
 ghost use Rattle.kinds.specs.Words.{value_small, bytes_of_value};
 
 use crate::codes::{Code, first_given};
-use crate::gearbox::{Range, Situation};
-use crate::given::Given;
+use crate::gearbox::Situation;
+use crate::kids::PerKid;
 use crate::kind::Kind;
 
 // Pressures are whole kPa.
 pub type Kpa = i32;
 
 // The data of one node of a shift map.
-#[derive(Clone, Copy)]
+#[derive(Clone, Copy, Debug, PartialEq, Eq)]
 pub struct MapData {
     pub code: u8,
     pub number: i32,
+}
+
+impl MapData {
+    // The data of a node of this code.
+    pub fn new(code: Code, number: i32) -> MapData
+        ensures { result ≡ map_data code number }
+    {
+        MapData {
+            code: code.number(),
+            number,
+        }
+    }
 }
 
 // The kind of shift maps.
@@ -58,17 +69,19 @@ impl Kind for Maps {
         0
     }
 
-    fn fits(d: MapData, kids: Given) -> bool {
-        match Code::of(d.code) {
-            Some(code) => number_fits(code, d.number) && first_given(code.kids_taken(), kids),
-            None => false,
+    fn fits(d: MapData, given: PerKid<bool>) -> bool {
+        match Code::try_from(d.code) {
+            Ok(code) => number_fits(code, d.number) && first_given(code.kids_taken(), given),
+            Err(_) => false,
         }
     }
 
-    fn work_out(d: MapData, s: Situation, first: Kpa, second: Kpa, third: Kpa) -> Kpa {
-        match Code::of(d.code) {
-            Some(code) => worth_of(code, d.number, s, first, second, third),
-            None => Self::blank(),
+    fn work_out(d: MapData, s: Situation, kids: PerKid<Kpa>) -> Kpa
+        ensures { result ≡ map_worth d s kids.first kids.second kids.third }
+    {
+        match Code::try_from(d.code) {
+            Ok(code) if number_fits(code, d.number) => limit(exact(code, d.number, s, kids)),
+            _ => Self::blank(),
         }
     }
 
@@ -84,90 +97,52 @@ impl Kind for Maps {
     }
 }
 
-fn worth_of(code: Code, number: i32, s: Situation, a: Kpa, b: Kpa, c: Kpa) -> Kpa
-    ensures { result ≡ worth_as (Some code) number s a b c }
-{
-    if number_fits(code, number) {
-        limit(exact(code, number, s, a, b, c))
-    } else {
-        Maps::blank()
-    }
-}
-
 fn number_fits(code: Code, number: i32) -> bool
     ensures { result ≡ number_fits code number }
 {
-    if number < SMALLEST || number > LARGEST {
-        return false;
-    }
-    match code {
-        Code::Number => true,
-        _ => number == 0,
-    }
+    (SMALLEST..=LARGEST).contains(&number) && (code == Code::Number || number == 0)
 }
 
 // The result before the limits; it fits 64 bits whatever the worths are.
-fn exact(code: Code, number: i32, s: Situation, a: i32, b: i32, c: i32) -> i64
-    ensures { result ≡ exactly code number s a b c }
+fn exact(code: Code, number: i32, s: Situation, kids: PerKid<Kpa>) -> i64
+    ensures { result ≡ exactly code number s kids.first kids.second kids.third }
 {
+    let PerKid {
+        first: a,
+        second: b,
+        third: c,
+    } = kids;
     match code {
-        Code::Number => number as i64,
-        Code::Range => range_number(s.range),
-        Code::Gear => s.gear as i64,
-        Code::Temperature => s.temperature as i64,
-        Code::Negated => -(a as i64),
-        Code::Sum => sum(a, b),
-        Code::Difference => difference(a, b),
-        Code::Smaller => a.min(b) as i64,
-        Code::Larger => a.max(b) as i64,
+        Code::Number => i64::from(number),
+        Code::Range => s.range as i64,
+        Code::Gear => i64::from(s.gear),
+        Code::Temperature => i64::from(s.temperature),
+        Code::Negated => -i64::from(a),
+        Code::Sum => i64::from(a) + i64::from(b),
+        Code::Difference => i64::from(a) - i64::from(b),
+        Code::Smaller => i64::from(a.min(b)),
+        Code::Larger => i64::from(a.max(b)),
         Code::Scaled => scaled(a, b),
-        Code::Choose => choose(a, b, c),
-        Code::Held => b.max(a.min(c)) as i64,
+        Code::Choose => i64::from(if a == 0 { b } else { c }),
+        Code::Held => i64::from(b.max(a.min(c))),
     }
-}
-
-fn range_number(range: Range) -> i64
-    ensures { result ≡ pos (range_number range) }
-{
-    match range {
-        Range::Low => 0,
-        Range::High => 1,
-    }
-}
-
-fn sum(a: i32, b: i32) -> i64
-    ensures { result ≡ a +ℤ b }
-{
-    a as i64 + b as i64
-}
-
-fn difference(a: i32, b: i32) -> i64
-    ensures { result ≡ a -ℤ b }
-{
-    a as i64 - b as i64
-}
-
-fn product(a: i32, b: i32) -> i64
-    ensures { result ≡ a *ℤ b }
-{
-    a as i64 * b as i64
 }
 
 // Hundredths of the first; the fraction is dropped.
-fn scaled(a: i32, b: i32) -> i64
+fn scaled(a: Kpa, b: Kpa) -> i64
     ensures { result ≡ int_div (a *ℤ b) (pos 100) }
 {
     product(a, b) / 100
 }
 
-fn choose(a: i32, b: i32, c: i32) -> i64
-    ensures { result ≡ (if is_zero a then b else c) }
+fn product(a: Kpa, b: Kpa) -> i64
+    ensures { result ≡ a *ℤ b }
 {
-    if a == 0 { b as i64 } else { c as i64 }
+    a as i64 * b as i64
 }
 
 fn limit(z: i64) -> Kpa
     ensures { result ≡ limited z }
 {
-    z.clamp(SMALLEST as i64, LARGEST as i64) as i32
+    z.clamp(i64::from(SMALLEST), i64::from(LARGEST)) as Kpa
 }

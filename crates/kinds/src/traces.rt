@@ -1,25 +1,34 @@
-ghost use Rattle.std.specs.Prelude.{◌≡◌, ◌<◌, if◌then◌else◌};
+ghost use Rattle.std.specs.Prelude.{◌≡◌, ◌<◌, if◌then◌else◌, Some};
 ghost use Rattle.std.proofs.Common.{ap, rules};
-ghost use Rattle.kinds.specs.Traces.{trace_fits, no_trace, worst_of, trace_worth, trace_bytes, trace_from, TraceStorable};
+ghost use Rattle.kinds.specs.Traces.{trace_fits, no_trace, worst_of, trace_worth, trace_bytes, trace_from, TraceStorable, worst_text};
 ghost use Rattle.kinds.specs.FirstKids.{first_kids};
 ghost use Rattle.kinds.specs.Words.{bytes_of_value};
 
 use crate::gearbox::Situation;
-use crate::given::Given;
+use crate::kids::PerKid;
 use crate::kind::Kind;
+use std::fmt;
 
 // The data of one node of a fault trace.
-#[derive(Clone, Copy)]
+#[derive(Clone, Copy, Debug, PartialEq, Eq)]
 pub struct TraceData {
     pub severity: u8,
     pub hour: u32,
 }
 
 // The worst that stands in a trace: the greatest severity and the latest hour.
-#[derive(Clone, Copy)]
+#[derive(Clone, Copy, Debug, PartialEq, Eq)]
 pub struct Worst {
     pub severity: u8,
     pub hour: u32,
+}
+
+impl fmt::Display for Worst {
+    ghost output = { λ worst. Some (worst_text worst) };
+
+    fn fmt<W: fmt::Write>(&self, f: &mut fmt::Formatter<W>) -> fmt::Result {
+        write!(f, "severity {}, hour {}", self.severity, self.hour)
+    }
 }
 
 // The kind of fault traces.
@@ -59,15 +68,18 @@ impl Kind for Traces {
         }
     }
 
-    fn fits(d: TraceData, _kids: Given) -> bool {
-        d.severity <= GREATEST_SEVERITY && d.hour <= LATEST_HOUR
+    fn fits(d: TraceData, _given: PerKid<bool>) -> bool {
+        in_limits(d)
     }
 
-    fn work_out(d: TraceData, _s: Situation, first: Worst, second: Worst, third: Worst) -> Worst {
-        if d.severity > GREATEST_SEVERITY || d.hour > LATEST_HOUR {
-            return Self::blank();
+    fn work_out(d: TraceData, s: Situation, kids: PerKid<Worst>) -> Worst
+        ensures { result ≡ trace_worth d s kids.first kids.second kids.third }
+    {
+        if in_limits(d) {
+            worst_of(d, kids)
+        } else {
+            Self::blank()
         }
-        worst_of(d, first, second, third)
     }
 
     fn to_bytes(d: TraceData) -> (u8, [u8; 4]) {
@@ -82,9 +94,20 @@ impl Kind for Traces {
     }
 }
 
-fn worst_of(d: TraceData, a: Worst, b: Worst, c: Worst) -> Worst
-    ensures { result ≡ worst_of d a b c }
+fn in_limits(d: TraceData) -> bool
+    ensures { result ≡ trace_fits d }
 {
+    d.severity <= GREATEST_SEVERITY && d.hour <= LATEST_HOUR
+}
+
+fn worst_of(d: TraceData, kids: PerKid<Worst>) -> Worst
+    ensures { result ≡ worst_of d kids.first kids.second kids.third }
+{
+    let PerKid {
+        first: a,
+        second: b,
+        third: c,
+    } = kids;
     let severity = d.severity.max(a.severity).max(b.severity.max(c.severity));
     let hour = d.hour.max(a.hour).max(b.hour.max(c.hour));
     Worst { severity, hour }

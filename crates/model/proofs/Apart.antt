@@ -99,28 +99,21 @@ module _ {D W A B : Type 0} (X : Setting D W A B) where
 
       -- the explicit step of p
       apart_turn : (r : Running D) → F.store.run p ≡ r → Apart F (having X F (turn_at r F.store F.info p x) (data_at r F.info)) q
-      apart_turn Idle e = framed Idle e tt
-      apart_turn (Reads g) e = framed (Reads g) e tt
       apart_turn (GoesDown k) e = apart_down (kid_at (F.store.kids (last F.store p)) k) Idle
       apart_turn (WalkReads t ReadNothing) e = apart_run (WalkReads t (ReadData (F.info (last F.store p))))
       apart_turn (WalkReads t (ReadData d)) e = apart_run (WalkReads t (ReadFirst d (F.store.kids (last F.store p)).first))
       apart_turn (WalkReads t (ReadFirst d i)) e = apart_run (WalkReads t (ReadSecond d i (F.store.kids (last F.store p)).second))
       apart_turn (WalkReads t (ReadSecond d i j)) e = apart_run Idle
       apart_turn (WalkGoesDown t k) e = apart_down (kid_at (F.store.kids (last F.store p)) k) (WalkReads t ReadNothing)
-      apart_turn (Works j c) e = framed (Works j c) e tt
-      apart_turn (Keeps i) e = framed (Keeps i) e tt
-      apart_turn (Drops i) e = framed (Drops i) e tt
-      apart_turn (Fetches i) e = framed (Fetches i) e tt
-      apart_turn (Hands i r) e = framed (Hands i r) e tt
-      apart_turn (TakesOut i v) e = framed (TakesOut i v) e tt
+      apart_turn c e = framed c e tt
 
       apart_moved : (d : Decision D W) → stepped X.parties X.nodes F.store F.info p x d ≡ turn_at (F.store.run p) F.store F.info p x
           → data_after X.parties X.nodes F.store F.info p x d ≡ data_at (F.store.run p) F.info
           → (T : Told D W) (G : System D W A B) → G.store ≡ (moved_as X F p x d T).store → G.info ≡ (moved_as X F p x d T).info → G.notes ≡ upd F.notes p (moved_as X F p x d T).notes → Apart F G q
       apart_moved d hs hi (Tells o) G es ei en =
           apart_along (having X F (turn_at (F.store.run p) F.store F.info p x) (data_at (F.store.run p) F.info)) G (es ∙ hs) (ei ∙ hi) (ap (λ f. f q) en ∙ upd_other F.notes p q (F.notes p) ne) (apart_turn (F.store.run p) refl)
-      apart_moved d hs hi (Settles t v ks) G es ei en =
-          apart_along (having X F (settled_store X.worth X.blank F.store (F.notes p) p t ks) F.info) G es ei (ap (λ f. f q) en ∙ upd_other F.notes p q (moved_as X F p x d (Settles t v ks)).notes ne) (apart_settled (F.notes p) t ks)
+      apart_moved d hs hi (Settles n) G es ei en =
+          apart_along (having X F (settled_store X.worth X.blank F.store (F.notes p) p n.situation n.kids) F.info) G es ei (ap (λ f. f q) en ∙ upd_other F.notes p q (moved_as X F p x d (Settles n)).notes ne) (apart_settled (F.notes p) n.situation n.kids)
 
     -- an accepted Turn of p, whose step is the explicit one
     pub apart_steps : Sound X.parties X.nodes F.store → 1 ≤ p → p ≤ X.parties → (o : Outcome D W) (G : System D W A B) (T : Steps X F p o G) → StepIs X F p T.pick → Apart F G q

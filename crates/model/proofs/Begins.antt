@@ -1,17 +1,18 @@
 -- A Begin that passes its checks keeps the store sound.
-use Rattle.std.proofs.Common.{◌≡◌, ℕ, ◌≤◌, Bool, true, false, not, ◌||◌, eqb, ltb, leb, ◌≢◌, List, [], ◌∷◌, is_some, None, sym, refl, ap, ◌∙◌, subst, inl, inr, true≢false, arith}
-use Rattle.std.proofs.lemmas.Bool.{eqb-true, eqb-false, ltb-false, leb-true, not-false, and_parts, and_cases, or_parts}
+use Rattle.std.proofs.Common.{◌≡◌, ℕ, ◌≤◌, Bool, true, false, not, ◌||◌, eqb, leb, ◌≢◌, List, [], ◌∷◌, is_some, None, sym, refl, ap, ◌∙◌, subst, inl, inr, true≢false, arith}
+use Rattle.std.proofs.lemmas.Bool.{eqb-true, eqb-false, leb-true, not-false, and_cases, or_parts}
 use Rattle.refusals.specs.declared.Refusal.{Refusal}
 use Rattle.refusals.specs.declared.Refusal.TheVariants.{NoSuchParty, NoSuchSlot, ShortList, DataDoesNotFit, BadSituation, Busy, SlotEmpty, SlotFilled, NoTrail, TrailStands}
 use Rattle.kinds.specs.Situations.{in_limits}
-use Rattle.kinds.specs.declared.given.Given.{Given}
-use Rattle.model.specs.Types.{Kid, First, Second, Third, Kids, OpenTray, LookForNode, Plan, Makes, Sweeps, ReadNothing, Running, Idle, Reads, GoesDown, Keeps, Drops, Hands, Fetches, TakesOut, Works, WalkReads, WalkGoesDown, Call, Enter, Up, Leave, Read, Down, Keep, Drop, Hand, Fetch, Make, Sweep, Walk, Asked, AsksCall, AsksWalk, Situation}
+use Rattle.kinds.specs.declared.kids.PerKid.{PerKid}
+use Rattle.model.specs.Types.{Lengths, Kid, First, Second, Third, Kids, OpenTray, LookForNode, Plan, Makes, Sweeps, ReadNothing, Running, Idle, Reads, GoesDown, Keeps, Drops, Hands, Fetches, Works, WalkReads, Call, Enter, Up, Leave, Read, Down, Keep, Drop, Hand, Fetch, Make, Sweep, Walk, Asked, AsksCall, AsksWalk, Situation}
 use Rattle.model.specs.State.{kid_at, Trail, no_trail, along, shorter, Store, set_trail, set_run}
 use Rattle.model.specs.Steps.{between}
-use Rattle.model.specs.Checks.{last_slot, Lengths, first_fault, is_none, entered_at, no_slot, no_kid_slot, kid_slot_empty, given_by, no_receiver, too_short, call_faults, walk_faults, faults, begin_fault, is_idle}
+use Rattle.model.specs.Checks.{last_slot, first_fault, is_none, entered_at, no_slot, no_kid_slot, kid_slot_empty, given_by, no_receiver, too_short, call_faults, walk_faults, faults, begin_fault, is_idle}
 use Rattle.model.specs.Inv.{none, reliance, needs_of, Own, Fit, LocalOf}
 use Rattle.model.specs.Sound.{Into, on_trail, opens, TrailAt, Sound}
 use Rattle.model.specs.Begins.{kid_of, started, started_walk}
+use Rattle.model.proofs.Between.{within}
 use Rattle.model.proofs.Sums.{upd_same}
 use Rattle.model.proofs.Make.{idle_claim}
 use Rattle.model.proofs.Fill.{no_needs}
@@ -23,13 +24,10 @@ passes true e rest h = absurd (true≢false (ap is_some h))
 passes false e rest h = (refl, h)
 
 pub is_between : (low high n : ℕ) → not (between low high n) ≡ false → (low ≤ n) × (n ≤ high)
-is_between low high n h = let u = and_parts (leb low n) (leb n high) (not-false (between low high n) h) in (leb-true low n u.0, leb-true n high u.1)
+is_between low high n h = within low high n (not-false (between low high n) h)
 
 pub is_slot : (i : ℕ) → no_slot i ≡ false → (1 ≤ i) × (i ≤ last_slot)
 is_slot i h = is_between 1 last_slot i h
-
-pub is_filled : (n : ℕ) → eqb n 0 ≡ false → n ≢ 0
-is_filled n h = eqb-false n 0 h
 
 pub is_empty : (n : ℕ) → not (eqb n 0) ≡ false → n ≡ 0
 is_empty n h = eqb-true n 0 (not-false (eqb n 0) h)
@@ -52,22 +50,13 @@ each fault ks Third h = (or_parts (fault ks.second) (fault ks.third) (or_parts (
 
 pub idle_is : {D : Type 0} (r : Running D) → not (is_idle r) ≡ false → r ≡ Idle
 idle_is Idle h = refl
-idle_is (Reads g) h = absurd (true≢false h)
-idle_is (GoesDown k) h = absurd (true≢false h)
-idle_is (Keeps i) h = absurd (true≢false h)
-idle_is (Drops i) h = absurd (true≢false h)
-idle_is (Hands i q) h = absurd (true≢false h)
-idle_is (Fetches i) h = absurd (true≢false h)
-idle_is (TakesOut i v) h = absurd (true≢false h)
-idle_is (Works j c) h = absurd (true≢false h)
-idle_is (WalkReads t g) h = absurd (true≢false h)
-idle_is (WalkGoesDown t k) h = absurd (true≢false h)
+idle_is _ h = absurd (true≢false h)
 
 pub none_stands : (t : Trail) → is_none t ≡ true → t ≡ no_trail
 none_stands no_trail h = refl
 none_stands (along i n ns) h = absurd (true≢false (sym h))
 
-module _ {D : Type 0} (suits : D → Given → Bool) where
+module _ {D : Type 0} (suits : D → PerKid Bool → Bool) where
   -- what every accepted Begin shows, whatever is asked
   pub record Accepted (N M : ℕ) (busy : Bool) (p : ℕ) (asked : Asked D) (l : Lengths) (slots : ℕ → ℕ) (t : Trail) : Type 0 where
     pub party_low : 1 ≤ p
@@ -98,7 +87,7 @@ module _ {D : Type 0} (suits : D → Given → Bool) where
         let v = passes (not (is_none t)) TrailStands ((eqb (slots i) 0, SlotEmpty) ∷ []) u.1 in
         let w = passes (eqb (slots i) 0) SlotEmpty [] v.1 in
         let r = is_slot i u.0 in
-        (r.0, r.1, none_stands t (not-false (is_none t) v.0), is_filled (slots i) w.0)
+        (r.0, r.1, none_stands t (not-false (is_none t) v.0), eqb-false (slots i) 0 w.0)
 
     -- Up, Leave and Read have one check
     pub up_passed : first_fault (call_faults suits Up slots t) ≡ None → is_none t ≡ false
@@ -125,7 +114,7 @@ module _ {D : Type 0} (suits : D → Given → Bool) where
         let v = passes (entered_at t i) TrailStands ((eqb (slots i) 0, SlotEmpty) ∷ []) u.1 in
         let w = passes (eqb (slots i) 0) SlotEmpty [] v.1 in
         let r = is_slot i u.0 in
-        (r.0, r.1, v.0, is_filled (slots i) w.0)
+        (r.0, r.1, v.0, eqb-false (slots i) 0 w.0)
 
     pub fetch_passed : (i : ℕ) → first_fault (call_faults suits (Fetch i) slots t) ≡ None → (1 ≤ i) × (i ≤ last_slot) × (slots i ≡ 0)
     fetch_passed i h =
@@ -174,29 +163,14 @@ module _ {D : Type 0} (suits : D → Given → Bool) where
         let x = passes (not (is_none t)) TrailStands ((gap, SlotEmpty) ∷ []) v.1 in
         let y = passes gap SlotEmpty [] x.1 in
         let r = is_slot w.slot u.0 in
-        (r.0, r.1, not-false fine v.0, none_stands t (not-false (is_none t) x.0), is_filled (slots w.slot) y.0)
-
-module _ {D : Type 0} {suits : D → Given → Bool} {N M : ℕ} {busy : Bool} {p : ℕ} {l : Lengths} {slots : ℕ → ℕ} {t : Trail} where
-  -- a Hand's receiver is a party
-  pub hand_receiver : {i q : ℕ} → Accepted suits N M busy p (AsksCall (Hand i q)) l slots t → (1 ≤ q) × (q ≤ N)
-  hand_receiver {i} {q} A = is_between 1 N q A.receiver
-
-  -- the lists given are long enough
-  pub call_lengths : {c : Call D} → Accepted suits N M busy p (AsksCall c) l slots t → M ≤ l.entries
-  call_lengths A = ltb-false l.entries M A.lengths
-
-  pub walk_lengths : {w : Walk} → Accepted suits N M busy p (AsksWalk w) l slots t → (M ≤ l.entries) × (M ≤ l.marks) × (M ≤ l.worths)
-  walk_lengths A =
-      let u = or_parts (ltb l.entries M) (ltb l.marks M || ltb l.worths M) A.lengths in
-      let v = or_parts (ltb l.marks M) (ltb l.worths M) u.1 in
-      (ltb-false l.entries M u.0, ltb-false l.marks M v.0, ltb-false l.worths M v.1)
+        (r.0, r.1, not-false fine v.0, none_stands t (not-false (is_none t) x.0), eqb-false (slots w.slot) 0 y.0)
 
 -- a trail stands beside a call that takes from another slot
 trail_beside : (kids : ℕ → Kids) (slots : ℕ → ℕ) (source i : ℕ) (T : Trail) → entered_at T i ≡ false → TrailAt kids slots source T → TrailAt kids slots i T
 trail_beside kids slots source i no_trail h t = tt
 trail_beside kids slots source i (along j n ns) h t = (t.0, t.1, t.2, t.3, λ z. eqb-false j i h (sym z))
 
-module _ {D : Type 0} (suits : D → Given → Bool) (N M : ℕ) (s : Store D) (S : Sound N M s) (p : ℕ) (a : 1 ≤ p) (b : p ≤ N) (e : s.run p ≡ Idle) where
+module _ {D : Type 0} (suits : D → PerKid Bool → Bool) (N M : ℕ) (s : Store D) (S : Sound N M s) (p : ℕ) (a : 1 ≤ p) (b : p ≤ N) (e : s.run p ≡ Idle) where
   abbrev Passed : Call D → Type 0
   Passed c = first_fault (call_faults suits c (s.slot p) (s.trail p)) ≡ None
 
@@ -275,14 +249,14 @@ module _ {D : Type 0} (suits : D → Given → Bool) (N M : ℕ) (s : Store D) (
       (subst (λ j. TrailAt u.kids (u.slot p) j (u.trail p)) no_source (E.trails p a b)) (λ _. ap is_none (upd_same s.trail p (entered i)))
 
 -- an accepted call keeps the store sound
-pub sound_started : {D : Type 0} (suits : D → Given → Bool) (N M : ℕ) (s : Store D) → Sound N M s → (p : ℕ) (c : Call D) (l : Lengths)
+pub sound_started : {D : Type 0} (suits : D → PerKid Bool → Bool) (N M : ℕ) (s : Store D) → Sound N M s → (p : ℕ) (c : Call D) (l : Lengths)
     → begin_fault suits N M (not (is_idle (s.run p))) p (AsksCall c) l (s.slot p) (s.trail p) ≡ None → Sound N M (started c s p)
 sound_started suits N M s S p c l h =
     let A = accepted suits N M (not (is_idle (s.run p))) p (AsksCall c) l (s.slot p) (s.trail p) h in
     starts suits N M s S p A.party_low A.party_high (idle_is (s.run p) A.not_busy) c A.receiver A.faultless
 
 -- an accepted walk keeps the store sound
-pub sound_started_walk : {D : Type 0} (suits : D → Given → Bool) (N M : ℕ) (s : Store D) → Sound N M s → (p : ℕ) (w : Walk) (l : Lengths) (t : Situation)
+pub sound_started_walk : {D : Type 0} (suits : D → PerKid Bool → Bool) (N M : ℕ) (s : Store D) → Sound N M s → (p : ℕ) (w : Walk) (l : Lengths) (t : Situation)
     → begin_fault suits N M (not (is_idle (s.run p))) p (AsksWalk w) l (s.slot p) (s.trail p) ≡ None → Sound N M (started_walk w.slot t s p)
 sound_started_walk suits N M s S p w l t h =
     let A = accepted suits N M (not (is_idle (s.run p))) p (AsksWalk w) l (s.slot p) (s.trail p) h in

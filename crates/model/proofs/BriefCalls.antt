@@ -2,7 +2,7 @@
 use Rattle.std.proofs.Common.{◌≡◌, ℕ, ◌<◌, ◌≤◌, Bool, true, false, cond, eqb, ◌⊎◌, sym, refl, inl, inr, arith}
 use Rattle.std.proofs.lemmas.Bool.{cond_both, true≢false}
 use Rattle.refusals.specs.declared.Refusal.TheVariants.{NoKid, InboxFull, InboxEmpty}
-use Rattle.model.specs.Types.{First, Second, Third, Tray, Closed, Open, Holding, Place, OpenTray, ReadTray, LookForNode, LockNode, Recheck, UnlockAndGoBack, ReadKid, ClearKid, UncountKid, Claim, Unlock, Offer, KeepForOneself, GiveBack, CloseTray, WriteData, CountKid, LinkKid, Makes, Sweeps, ReadNothing, ReadData, ReadFirst, ReadSecond, Running, Idle, Reads, GoesDown, Keeps, Drops, Hands, Fetches, TakesOut, Works, WalkReads, WalkGoesDown, AtNode, Swept, Refused, Address, Nowhere, CountOf, TrayOf, NoWord, LockWord, InboxWord, Stays, Fills, Lengthens, Told, Tells, Settles, Decision}
+use Rattle.model.specs.Types.{Err, First, Second, Third, Tray, Closed, Open, Holding, Place, OpenTray, ReadTray, LookForNode, LockNode, Recheck, UnlockAndGoBack, ReadKid, ClearKid, UncountKid, Claim, Unlock, Offer, KeepForOneself, GiveBack, CloseTray, WriteData, CountKid, LinkKid, Makes, Sweeps, ReadNothing, ReadData, ReadFirst, ReadSecond, Running, Idle, Reads, GoesDown, Keeps, Drops, Hands, Fetches, TakesOut, Works, WalkReads, WalkGoesDown, AtNode, Swept, Address, Nowhere, CountOf, TrayOf, NoWord, LockWord, InboxWord, Stays, Fills, Lengthens, Told, Tells, Settles, Decision}
 use Rattle.model.specs.State.{kid_at, Store, last}
 use Rattle.model.specs.Steps.{between, loaded, address, decide, going, ending, ended_by, backward, offered, offered_to_oneself, not_taken, on_count, on_tray}
 use Rattle.model.specs.Inv.{Fit, FitJob}
@@ -51,7 +51,7 @@ left r = elim r [
 -- a step ends its call, or leaves fewer turns to it
 abbrev pub EndsBy : {D W : Type 0} → Told D W → Type 0
 EndsBy (Tells o) = is_end o ≡ true
-EndsBy (Settles t d ks) = ⊥
+EndsBy (Settles n) = ⊥
 
 module _ {D : Type 0} (W : Type 0) where
   abbrev pub Nearer : ℕ → Decision D W → Type 0
@@ -88,14 +88,6 @@ module _ {D : Type 0} (W : Type 0) where
     place_nearer (ReadKid n First) f = choose (s.kids n).first 13 (going NoWord (Works Sweeps (ReadKid n Second))) (going NoWord (Works Sweeps (ClearKid n First (s.kids n).first))) (inr (refl, omega arith)) (inr (refl, omega arith))
     place_nearer (ReadKid n Second) f = choose (s.kids n).second 10 (going NoWord (Works Sweeps (ReadKid n Third))) (going NoWord (Works Sweeps (ClearKid n Second (s.kids n).second))) (inr (refl, omega arith)) (inr (refl, omega arith))
     place_nearer (ReadKid n Third) f = choose (s.kids n).third 7 (going NoWord (Works Sweeps (Claim n))) (going NoWord (Works Sweeps (ClearKid n Third (s.kids n).third))) (inr (refl, omega arith)) (inr (refl, omega arith))
-    place_nearer (ClearKid n First w) f = inr (refl, omega arith)
-    place_nearer (ClearKid n Second w) f = inr (refl, omega arith)
-    place_nearer (ClearKid n Third w) f = inr (refl, omega arith)
-    place_nearer (UncountKid n First w) f = inr (refl, omega arith)
-    place_nearer (UncountKid n Second w) f = inr (refl, omega arith)
-    place_nearer (UncountKid n Third w) f = inr (refl, omega arith)
-    place_nearer (Claim n) f = inr (refl, omega arith)
-    place_nearer (Unlock n) f = inr (refl, omega arith)
     place_nearer (Offer n) f = offer_nearer n (eqb x p)
     place_nearer (KeepForOneself n) f = absurd f
     place_nearer (GiveBack n) f = inl refl
@@ -103,64 +95,43 @@ module _ {D : Type 0} (W : Type 0) where
     place_nearer (WriteData v) f = absurd f
     place_nearer (CountKid v k) f = absurd f
     place_nearer (LinkKid v k w) f = absurd f
+    place_nearer (ClearKid n First w) f = inr (refl, omega arith)
+    place_nearer (UncountKid n First w) f = inr (refl, omega arith)
+    place_nearer _ f = inr (refl, omega arith)
 
     pub nearer : (r : Running D) → is_brief r ≡ true → Fit N r → Nearer (left r) (decided r)
-    nearer Idle h f = absurd (true≢false (sym h))
     nearer (Reads ReadNothing) h f = inr (refl, omega arith)
     nearer (Reads (ReadData d)) h f = inr (refl, omega arith)
     nearer (Reads (ReadFirst d i)) h f = inr (refl, omega arith)
     nearer (Reads (ReadSecond d i j)) h f = inl refl
-    nearer (GoesDown k) h f = let c = kid_at (s.kids (last s p)) k in choose c 1 (ended_by (Refused NoKid)) (ending NoWord (Lengthens c) (AtNode c)) (inl refl) (inl refl)
+    nearer (GoesDown k) h f = let c = kid_at (s.kids (last s p)) k in choose c 1 (ended_by (Err NoKid)) (ending NoWord (Lengthens c) (AtNode c)) (inl refl) (inl refl)
     nearer (Keeps i) h f = inl refl
     nearer (Drops i) h f = inl refl
-    nearer (Hands i q) h f = choose (s.inbox q) 1 (ending (InboxWord (s.slot p i)) (Fills i 0) (AtNode (s.slot p i))) (ended_by (Refused InboxFull)) (inl refl) (inl refl)
-    nearer (Fetches i) h f = choose (s.inbox p) 2 (ended_by (Refused InboxEmpty)) (going NoWord (TakesOut i (s.inbox p))) (inl refl) (inr (refl, omega arith))
+    nearer (Hands i q) h f = choose (s.inbox q) 1 (ending (InboxWord (s.slot p i)) (Fills i 0) (AtNode (s.slot p i))) (ended_by (Err InboxFull)) (inl refl) (inl refl)
+    nearer (Fetches i) h f = choose (s.inbox p) 2 (ended_by (Err InboxEmpty)) (going NoWord (TakesOut i (s.inbox p))) (inl refl) (inr (refl, omega arith))
     nearer (TakesOut i v) h f = inl refl
-    nearer (Works (Makes plan) c) h f = absurd (true≢false (sym h))
     nearer (Works Sweeps c) h f = place_nearer c f.1
-    nearer (WalkReads t g) h f = absurd (true≢false (sym h))
-    nearer (WalkGoesDown t k) h f = absurd (true≢false (sym h))
+    nearer _ h f = absurd (true≢false (sym h))
 
 -- a brief call has some turn left, and at most sixteen
 sweep_left : (D : Type 0) (c : Place) → FitJob {D = D} Sweeps c → (1 ≤ left_at c) × (left_at c ≤ 16)
 sweep_left D OpenTray f = absurd f
 sweep_left D ReadTray f = absurd f
-sweep_left D LookForNode f = (omega arith, omega arith)
-sweep_left D (LockNode n) f = (omega arith, omega arith)
-sweep_left D (Recheck n) f = (omega arith, omega arith)
-sweep_left D (UnlockAndGoBack n) f = (omega arith, omega arith)
-sweep_left D (ReadKid n First) f = (omega arith, omega arith)
-sweep_left D (ReadKid n Second) f = (omega arith, omega arith)
-sweep_left D (ReadKid n Third) f = (omega arith, omega arith)
-sweep_left D (ClearKid n First w) f = (omega arith, omega arith)
-sweep_left D (ClearKid n Second w) f = (omega arith, omega arith)
-sweep_left D (ClearKid n Third w) f = (omega arith, omega arith)
-sweep_left D (UncountKid n First w) f = (omega arith, omega arith)
-sweep_left D (UncountKid n Second w) f = (omega arith, omega arith)
-sweep_left D (UncountKid n Third w) f = (omega arith, omega arith)
-sweep_left D (Claim n) f = (omega arith, omega arith)
-sweep_left D (Unlock n) f = (omega arith, omega arith)
-sweep_left D (Offer n) f = (omega arith, omega arith)
 sweep_left D (KeepForOneself n) f = absurd f
-sweep_left D (GiveBack n) f = (omega arith, omega arith)
 sweep_left D (CloseTray v) f = absurd f
 sweep_left D (WriteData v) f = absurd f
 sweep_left D (CountKid v k) f = absurd f
 sweep_left D (LinkKid v k w) f = absurd f
+sweep_left D (ReadKid n First) f = (omega arith, omega arith)
+sweep_left D (ClearKid n First w) f = (omega arith, omega arith)
+sweep_left D (UncountKid n First w) f = (omega arith, omega arith)
+sweep_left D _ f = (omega arith, omega arith)
 
 pub some_left : {D : Type 0} (N : ℕ) (r : Running D) → is_brief r ≡ true → Fit N r → (1 ≤ left r) × (left r ≤ 16)
 some_left N Idle h f = absurd (true≢false (sym h))
 some_left N (Reads ReadNothing) h f = (omega arith, omega arith)
-some_left N (Reads (ReadData d)) h f = (omega arith, omega arith)
-some_left N (Reads (ReadFirst d i)) h f = (omega arith, omega arith)
-some_left N (Reads (ReadSecond d i j)) h f = (omega arith, omega arith)
-some_left N (GoesDown k) h f = (omega arith, omega arith)
-some_left N (Keeps i) h f = (omega arith, omega arith)
-some_left N (Drops i) h f = (omega arith, omega arith)
-some_left N (Hands i q) h f = (omega arith, omega arith)
-some_left N (Fetches i) h f = (omega arith, omega arith)
-some_left N (TakesOut i v) h f = (omega arith, omega arith)
 some_left {D} N (Works Sweeps c) h f = sweep_left D c f.1
 some_left N (Works (Makes plan) c) h f = absurd (true≢false (sym h))
 some_left N (WalkReads t g) h f = absurd (true≢false (sym h))
 some_left N (WalkGoesDown t k) h f = absurd (true≢false (sym h))
+some_left N _ h f = (omega arith, omega arith)

@@ -3,17 +3,17 @@ use Rattle.std.proofs.Common.{◌≡◌, ℕ, Bool, true, false, not, ◌||◌, 
 use Rattle.refusals.specs.Numbers.{number_of}
 use Rattle.refusals.specs.declared.Refusal.{Refusal}
 use Rattle.refusals.specs.declared.Refusal.TheVariants.{NoSuchParty, ShortList, Busy}
-use Rattle.kinds.specs.declared.given.Given.{Given}
-use Rattle.model.specs.Types.{Asked}
+use Rattle.kinds.specs.declared.kids.PerKid.{PerKid}
+use Rattle.model.specs.Types.{Lengths, Asked}
 use Rattle.model.specs.State.{Trail}
 use Rattle.model.specs.Steps.{between}
-use Rattle.model.specs.Checks.{Lengths, first_fault, no_receiver, too_short, faults, begin_fault}
+use Rattle.model.specs.Checks.{first_fault, no_receiver, too_short, faults, begin_fault}
 
 -- the number of what a Begin is refused with, 11 for none
 abbrev number_in : Option Refusal → ℕ
 number_in o = elim o [ Some e ↦ number_of e | None ↦ 11 ]
 
-module _ {D : Type 0} (suits : D → Given → Bool) (N M : ℕ) where
+module _ {D : Type 0} (suits : D → PerKid Bool → Bool) (N M : ℕ) where
   -- the same slots and the same trail: the same refusal
   pub fault_same : (busy : Bool) (p : ℕ) (a : Asked D) (l : Lengths) (f g : ℕ → ℕ) (T U : Trail) → f ≡ g → T ≡ U → begin_fault suits N M busy p a l f T ≡ begin_fault suits N M busy p a l g U
   fault_same busy p a l f g T U e h = ap (λ v. begin_fault suits N M busy p a l v T) e ∙ ap (begin_fault suits N M busy p a l g) h

@@ -1,11 +1,12 @@
 -- The steps that fill or empty a slot: the end of Make, Drop, Hand, Fetch; and GivenKids.
-use Rattle.std.proofs.Common.{◌≡◌, ℕ, suc, ◌+◌, ◌-◌, ◌<◌, ◌≤◌, eqb, ◌≢◌, sym, refl, ap, ◌∙◌, subst, inl, inr, arith}
-use Rattle.std.proofs.lemmas.Bool.{cases_eq, cond_both, eqb-true, eqb-false}
+use Rattle.std.proofs.Common.{◌≡◌, ℕ, suc, ◌+◌, ◌-◌, ◌<◌, ◌≤◌, ◌≢◌, sym, refl, ap, ◌∙◌, subst, inl, inr, arith}
+use Rattle.std.proofs.lemmas.Bool.{cases_eq}
 use Rattle.model.specs.Fun.{upd, is}
-use Rattle.model.specs.Types.{Kid, First, Second, Third, Holding, WriteData, CountKid, LinkKid, Plan, Makes, Idle, Drops, Works}
+use Rattle.model.specs.Types.{Kid, Holding, WriteData, CountKid, LinkKid, Plan, Makes, Idle, Drops, Works}
 use Rattle.model.specs.State.{position, kid_at, put_kid, Store, set_count, set_kid, set_slot, set_run}
 use Rattle.model.specs.Inv.{none, reliance_at, reliance, needs_job, tray_node, carry, in_slots, in_boxes, in_trays, carried, in_kids, Own, Good, Bare, Inv}
-use Rattle.model.proofs.Explicit.{made, give_first, give_second, give_third, give_after, place_step, turn_at}
+use Rattle.model.proofs.Gives.{first_by, after_by}
+use Rattle.model.proofs.Explicit.{made, give_first, give_after, place_step, turn_at}
 use Rattle.model.proofs.Sums.{upd_same, upd_other, is_same, is_other}
 use Rattle.model.proofs.Refs.{carried_at, carry_one, carried_upd, slots_upd, slots_at, kids_upd}
 use Rattle.model.proofs.Frames.{upd_all, alone_refs, others_count, others_kid, others_slot, bare_count, bare_kid, assemble, count_step}
@@ -76,22 +77,11 @@ module _ {D : Type 0} (N M : ℕ) (s : Store D) (I : Inv N M s) (p : ℕ) (a : 1
         (idle_claim N M s I p a b t' (λ k. 0), record { into_is = λ z. absurd (z refl); source_is = λ z. absurd (z refl); wants_is = λ k z. absurd (z refl); boxed_is = λ z. absurd (z refl) }, tt)
         (others_slot N M s I p x.slot v t B.same_slot B.others) B.trays B.filled
 
-    from_third_lem : Built N M s t p x v 3 → Inv N M (give_third x t p v)
-    from_third_lem B = cond_both (eqb x.kids.third 0) (made x t p v) (set_run t p (Works (Makes x) (CountKid v Third))) (Inv N M)
-        (λ z. to_made (skip Third B (eqb-true x.kids.third 0 z))) (λ z. to_more Third B (eqb-false x.kids.third 0 z))
-
-    from_second_lem : Built N M s t p x v 2 → Inv N M (give_second x t p v)
-    from_second_lem B = cond_both (eqb x.kids.second 0) (give_third x t p v) (set_run t p (Works (Makes x) (CountKid v Second))) (Inv N M)
-        (λ z. from_third_lem (skip Second B (eqb-true x.kids.second 0 z))) (λ z. to_more Second B (eqb-false x.kids.second 0 z))
-
     from_first_lem : Built N M s t p x v 1 → Inv N M (give_first x t p v)
-    from_first_lem B = cond_both (eqb x.kids.first 0) (give_second x t p v) (set_run t p (Works (Makes x) (CountKid v First))) (Inv N M)
-        (λ z. from_second_lem (skip First B (eqb-true x.kids.first 0 z))) (λ z. to_more First B (eqb-false x.kids.first 0 z))
+    from_first_lem = first_by (Inv N M) x t p v (Built N M s t p x v) to_made to_more skip
 
     from_after : (k : Kid) → Built N M s t p x v (suc (position k)) → Inv N M (give_after x t p v k)
-    from_after First B = from_second_lem B
-    from_after Second B = from_third_lem B
-    from_after Third B = to_made B
+    from_after = after_by (Inv N M) x t p v (Built N M s t p x v) to_made to_more skip
 
   pub at_WriteData : (x : Plan D) (v y : ℕ) → s.run p ≡ Works (Makes x) (WriteData v) → 1 ≤ x.slot → Inv N M (place_step (WriteData v) (Makes x) s p y)
   at_WriteData x v y e i =

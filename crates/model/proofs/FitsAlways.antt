@@ -1,7 +1,7 @@
 -- In every store that can exist a step's pick is in range, so the data of every reached node fits its kids.
 use Rattle.std.proofs.Common.{◌≡◌, ℕ, ◌≤◌, false, refl, ap, arith}
 use Rattle.orders.specs.Limits.{IsParty}
-use Rattle.model.specs.Types.{Place, OpenTray, ReadTray, LookForNode, LockNode, Recheck, UnlockAndGoBack, ReadKid, ClearKid, UncountKid, Claim, Unlock, Offer, KeepForOneself, GiveBack, CloseTray, WriteData, CountKid, LinkKid, Job, Running, Idle, Reads, GoesDown, Keeps, Drops, Hands, Fetches, TakesOut, Works, WalkReads, WalkGoesDown, Outcome}
+use Rattle.model.specs.Types.{Place, LookForNode, Offer, Job, Running, Works, Outcome}
 use Rattle.model.specs.Checks.{is_idle}
 use Rattle.model.specs.Setting.{Setting}
 use Rattle.model.specs.Runs.{System, Steps, asks_nodes, asks_parties}
@@ -25,37 +25,13 @@ module _ {D W A B : Type 0} (X : Setting D W A B) (F G : System D W A B) (K : Ke
       (m.0, omega (arith, m.1, K.sized.parties))
 
   place_picked : (j : Job D) (c : Place) → F.store.run p ≡ Works j c → PickedAt X.parties X.nodes T.pick c
-  place_picked j OpenTray e = tt
-  place_picked j ReadTray e = tt
   place_picked j LookForNode e = node_picked j e
-  place_picked j (LockNode n) e = tt
-  place_picked j (Recheck n) e = tt
-  place_picked j (UnlockAndGoBack n) e = tt
-  place_picked j (ReadKid n k) e = tt
-  place_picked j (ClearKid n k w) e = tt
-  place_picked j (UncountKid n k w) e = tt
-  place_picked j (Claim n) e = tt
-  place_picked j (Unlock n) e = tt
   place_picked j (Offer n) e = party_picked j n e
-  place_picked j (KeepForOneself n) e = tt
-  place_picked j (GiveBack n) e = tt
-  place_picked j (CloseTray v) e = tt
-  place_picked j (WriteData v) e = tt
-  place_picked j (CountKid v k) e = tt
-  place_picked j (LinkKid v k w) e = tt
+  place_picked j _ e = tt
 
   pub picked : (r : Running D) → F.store.run p ≡ r → Picked X.parties X.nodes T.pick r
-  picked Idle e = tt
-  picked (Reads g) e = tt
-  picked (GoesDown k) e = tt
-  picked (Keeps i) e = tt
-  picked (Drops i) e = tt
-  picked (Hands i q) e = tt
-  picked (Fetches i) e = tt
-  picked (TakesOut i v) e = tt
   picked (Works j c) e = place_picked j c e
-  picked (WalkReads t g) e = tt
-  picked (WalkGoesDown t k) e = tt
+  picked _ e = tt
 
   -- the step is the explicit one
   pub step_is : is_idle (F.store.run p) ≡ false → StepIs X F p T.pick

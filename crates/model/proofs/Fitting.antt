@@ -1,26 +1,28 @@
 -- The data of every reached node fits its kids, and what a Make is to write fits the kids it is given: every Begin and every
 -- step keeps that.
-use Rattle.std.proofs.Common.{◌≡◌, ℕ, suc, ◌+◌, ◌-◌, ◌<◌, ◌≤◌, Bool, true, false, cond, not, eqb, ◌≢◌, ◌⊎◌, [], Some, None, sym, refl, ap, ◌∙◌, subst, inl, inr, arith}
-use Rattle.std.proofs.lemmas.Bool.{cases_eq, cond_both, cond-true, cond-false, eq-eqb, ne_eqb, eqb-true}
-use Rattle.kinds.specs.declared.given.Given.{Given}
+use Rattle.std.proofs.Common.{◌≡◌, ℕ, suc, ◌+◌, ◌-◌, ◌≤◌, Bool, true, false, cond, not, eqb, ◌≢◌, ◌⊎◌, [], Some, None, sym, refl, ap, ◌∙◌, subst, inl, inr, arith}
+use Rattle.std.proofs.lemmas.Bool.{cases_eq, cond_both, eq-eqb, ne_eqb}
+use Rattle.kinds.specs.declared.kids.PerKid.{PerKid}
 use Rattle.model.specs.Fun.{upd}
-use Rattle.model.specs.Types.{Kid, First, Second, Third, Kids, Tray, Closed, Open, Holding, Place, OpenTray, ReadTray, LookForNode, LockNode, Recheck, UnlockAndGoBack, ReadKid, ClearKid, UncountKid, Claim, Unlock, Offer, KeepForOneself, GiveBack, CloseTray, WriteData, CountKid, LinkKid, Plan, Job, Makes, Sweeps, Reading, ReadNothing, ReadData, ReadFirst, ReadSecond, Running, Idle, Reads, GoesDown, Keeps, Drops, Hands, Fetches, TakesOut, Works, WalkReads, WalkGoesDown, Call, Enter, Up, Leave, Read, Down, Keep, Drop, Hand, Fetch, Make, Sweep, AsksCall, Situation, Word, DataWord, CountOf, TrayOf, Nowhere, Outcome, Change, Told, Tells, Settles, Decision}
+use Rattle.model.specs.Types.{Lengths, Event, Kid, First, Second, Third, Kids, Tray, Closed, Open, Holding, Place, OpenTray, ReadTray, LookForNode, LockNode, Recheck, UnlockAndGoBack, ReadKid, ClearKid, UncountKid, Claim, Unlock, Offer, KeepForOneself, GiveBack, CloseTray, WriteData, CountKid, LinkKid, Plan, Job, Makes, Sweeps, Reading, ReadNothing, Running, Idle, Reads, GoesDown, Keeps, Drops, Hands, Fetches, TakesOut, Works, WalkReads, WalkGoesDown, Call, Enter, Up, Leave, Read, Down, Keep, Drop, Hand, Fetch, Make, Sweep, AsksCall, Situation, Word, DataWord, CountOf, TrayOf, Nowhere, Outcome, Change, Told, Tells, Settles, Decision}
 use Rattle.model.specs.State.{position, kid_at, put_kid, Trail, no_trail, along, shorter, longer, new_store, Store, set_count, set_lock, set_kid, set_inbox, set_tray, set_slot, set_trail, set_run, last}
 use Rattle.model.specs.Steps.{between, own_address, data_written, after_kid, address, loaded, decide, decision, stepped, data_after, going, from_third, from_second, from_first}
-use Rattle.model.specs.Checks.{last_slot, Lengths, first_fault, call_faults, begin_fault, given_by, is_idle}
+use Rattle.model.specs.Checks.{last_slot, first_fault, call_faults, begin_fault, given_by, is_idle}
 use Rattle.model.specs.Begins.{kid_of, started, started_walk}
 use Rattle.model.specs.Walks.{Notes, first_unmarked, gone_up, resumes, settled_store}
 use Rattle.model.specs.Reach.{Reach, by_slot, by_box, by_kid, Reached}
 use Rattle.model.specs.Inv.{reliance_at, reliance, carry, FitPlace, Fit, Good}
 use Rattle.model.specs.Sound.{on_trail, Sound}
 use Rattle.model.specs.Setting.{Setting}
-use Rattle.model.specs.Runs.{System, Event, moved_as, Steps, Moves, begin_refused, call_begun, walk_begun, turn_refused, turn, walk_turn_refused, walk_turn}
+use Rattle.model.specs.Runs.{System, moved_as, Steps, Moves, begin_refused, call_begun, walk_begun, turn_refused, turn, walk_turn_refused, walk_turn}
 use Rattle.model.specs.Opened.{WrittenSoFar, New}
 use Rattle.model.specs.Existing.{CanExist, new, moved, ReachedDataFits}
-use Rattle.model.proofs.Explicit.{is_open, back, made, give_first, give_second, give_third, give_after, at_ReadTray, own_tray, place_step, read_on_at, down_to, turn_at}
+use Rattle.model.proofs.Gives.{first_by, after_by}
+use Rattle.model.proofs.Explicit.{is_open, back, made, give_first, give_after, at_ReadTray, own_tray, place_step, read_on_at, down_to, turn_at}
 use Rattle.model.proofs.Sums.{upd_same, upd_other}
 use Rattle.model.proofs.Refs.{carry_one}
 use Rattle.model.proofs.Frames.{upd_all, alone_refs}
+use Rattle.model.proofs.Wants.{wants, wants_none, wants_some, Shape, shape_past}
 use Rattle.model.proofs.Make.{good, position_same, put_same, put_other, position_pos, position_low}
 use Rattle.model.proofs.Stays.{out_empty, out_one}
 use Rattle.model.proofs.Trails.{last_reached}
@@ -28,7 +30,7 @@ use Rattle.model.proofs.Accepted.{turn_passed, walk_turn_passed}
 use Rattle.model.proofs.Begins.{accepted, make_passed}
 
 -- every reached node's data fits its kids; a Make's plan fits, and what it has written is the plan's
-pub record Fitting {D : Type 0} (suits : D → Given → Bool) (N : ℕ) (s : Store D) (info : ℕ → D) : Type 0 where
+pub record Fitting {D : Type 0} (suits : D → PerKid Bool → Bool) (N : ℕ) (s : Store D) (info : ℕ → D) : Type 0 where
   pub reached : (n : ℕ) → Reached N s n → suits (info n) (given_by (s.kids n)) ≡ true
   pub plans : (q : ℕ) → 1 ≤ q → q ≤ N → (plan : Plan D) (c : Place) → s.run q ≡ Works (Makes plan) c → (suits plan.given (given_by plan.kids) ≡ true) × WrittenSoFar info plan c
 
@@ -100,44 +102,17 @@ module _ {D : Type 0} (W : Type 0) where
     DataIs r = data_written info (address N M r p x slots n) (word_of r) ≡ data_at r info
 
     data_place : (c : Place) (j : Job D) → DataIs (Works j c)
-    data_place OpenTray j = refl
-    data_place ReadTray j = refl
     data_place LookForNode j = no_data_looked info (word_of (Works j LookForNode)) M x
-    data_place (LockNode m) j = refl
-    data_place (Recheck m) j = refl
-    data_place (UnlockAndGoBack m) j = refl
-    data_place (ReadKid m k) j = refl
-    data_place (ClearKid m k w) j = refl
-    data_place (UncountKid m k w) j = refl
-    data_place (Claim m) j = refl
-    data_place (Unlock m) j = refl
     data_place (Offer m) j = no_data_offered info (word_of (Works j (Offer m))) N j p x m
-    data_place (KeepForOneself m) j = refl
-    data_place (GiveBack m) j = refl
-    data_place (CloseTray v) j = refl
     data_place (WriteData v) (Makes plan) = ap (λ w. data_written info (address N M (Works (Makes plan) (WriteData v)) p x slots n) w) (first_word W plan v (DataWord plan.given))
     data_place (WriteData v) Sweeps = refl
-    data_place (CountKid v k) j = refl
-    data_place (LinkKid v k w) j = refl
+    data_place _ j = refl
 
     data_running : (r : Running D) → DataIs r
-    data_running Idle = refl
-    data_running (Reads ReadNothing) = refl
-    data_running (Reads (ReadData d)) = refl
-    data_running (Reads (ReadFirst d i)) = refl
-    data_running (Reads (ReadSecond d i j)) = refl
-    data_running (GoesDown k) = refl
-    data_running (Keeps i) = refl
-    data_running (Drops i) = refl
-    data_running (Hands i q) = refl
-    data_running (Fetches i) = refl
-    data_running (TakesOut i v) = refl
     data_running (Works j c) = data_place c j
+    data_running (Reads ReadNothing) = refl
     data_running (WalkReads t ReadNothing) = refl
-    data_running (WalkReads t (ReadData d)) = refl
-    data_running (WalkReads t (ReadFirst d i)) = refl
-    data_running (WalkReads t (ReadSecond d i j)) = refl
-    data_running (WalkGoesDown t k) = refl
+    data_running _ = refl
 
 -- what the specification's step makes of the data
 pub data_after_lem : {D : Type 0} (W : Type 0) (N M : ℕ) (s : Store D) (info : ℕ → D) (p x : ℕ) → data_after N M s info p x (decision {W = W} N M s info p x) ≡ data_at (s.run p) info
@@ -176,62 +151,27 @@ new_reaches D N (by_kid m k r e z) = new_reaches D N r
 
 -- what a Make has written stays while its node's data does
 pub written_kept : {D : Type 0} (info info' : ℕ → D) (x : Plan D) (c : Place) → FitPlace c → ((v : ℕ) → 1 ≤ v → (reliance_at c).one ≡ v → info' v ≡ info v) → WrittenSoFar info x c → WrittenSoFar info' x c
-written_kept info info' x OpenTray f h d = tt
-written_kept info info' x ReadTray f h d = tt
-written_kept info info' x LookForNode f h d = tt
-written_kept info info' x (LockNode n) f h d = tt
-written_kept info info' x (Recheck n) f h d = tt
-written_kept info info' x (UnlockAndGoBack n) f h d = tt
-written_kept info info' x (ReadKid n k) f h d = tt
-written_kept info info' x (ClearKid n k w) f h d = tt
-written_kept info info' x (UncountKid n k w) f h d = tt
-written_kept info info' x (Claim n) f h d = tt
-written_kept info info' x (Unlock n) f h d = tt
-written_kept info info' x (Offer n) f h d = tt
-written_kept info info' x (KeepForOneself n) f h d = tt
-written_kept info info' x (GiveBack n) f h d = tt
-written_kept info info' x (CloseTray n) f h d = tt
-written_kept info info' x (WriteData n) f h d = tt
 written_kept info info' x (CountKid v k) f h d = h v f refl ∙ d
 written_kept info info' x (LinkKid v k w) f h d = h v f.0 refl ∙ d
+written_kept info info' x _ f h d = tt
 
 pub after_kid_written : {D : Type 0} (info : ℕ → D) (n : ℕ) (k : Kid) (x : Plan D) → WrittenSoFar info x (after_kid n k)
 after_kid_written info n First x = tt
 after_kid_written info n Second x = tt
 after_kid_written info n Third x = tt
 
-module _ {D : Type 0} (suits : D → Given → Bool) where
+module _ {D : Type 0} (suits : D → PerKid Bool → Bool) where
   -- what the invariant says of one party's running call
   abbrev Fine : (ℕ → D) → Running D → Type 0
-  Fine info r = elim r [ Works j c ↦ elim j [ Makes plan ↦ (suits plan.given (given_by plan.kids) ≡ true) × WrittenSoFar info plan c | Sweeps ↦ Unit {0} ] | Idle ↦ Unit {0} | Reads g ↦ Unit {0} | GoesDown k ↦ Unit {0} | Keeps i ↦ Unit {0} | Drops i ↦ Unit {0} | Hands i q ↦ Unit {0} | Fetches i ↦ Unit {0} | TakesOut i v ↦ Unit {0} | WalkReads t g ↦ Unit {0} | WalkGoesDown t k ↦ Unit {0} ]
+  Fine info r = elim r [ Works j c ↦ elim j [ Makes plan ↦ (suits plan.given (given_by plan.kids) ≡ true) × WrittenSoFar info plan c | Sweeps ↦ Unit {0} ] | _ ↦ Unit {0} ]
 
   fine_at : (info : ℕ → D) (r : Running D) → ((plan : Plan D) (c : Place) → r ≡ Works (Makes plan) c → (suits plan.given (given_by plan.kids) ≡ true) × WrittenSoFar info plan c) → Fine info r
-  fine_at info Idle h = tt
-  fine_at info (Reads g) h = tt
-  fine_at info (GoesDown k) h = tt
-  fine_at info (Keeps i) h = tt
-  fine_at info (Drops i) h = tt
-  fine_at info (Hands i q) h = tt
-  fine_at info (Fetches i) h = tt
-  fine_at info (TakesOut i v) h = tt
   fine_at info (Works (Makes plan) c) h = h plan c refl
-  fine_at info (Works Sweeps c) h = tt
-  fine_at info (WalkReads t g) h = tt
-  fine_at info (WalkGoesDown t k) h = tt
+  fine_at info _ h = tt
 
   fine_kept : (N : ℕ) (info info' : ℕ → D) (r : Running D) → Fit N r → ((v : ℕ) → 1 ≤ v → (reliance r).one ≡ v → info' v ≡ info v) → Fine info r → Fine info' r
-  fine_kept N info info' Idle f h d = tt
-  fine_kept N info info' (Reads g) f h d = tt
-  fine_kept N info info' (GoesDown k) f h d = tt
-  fine_kept N info info' (Keeps i) f h d = tt
-  fine_kept N info info' (Drops i) f h d = tt
-  fine_kept N info info' (Hands i q) f h d = tt
-  fine_kept N info info' (Fetches i) f h d = tt
-  fine_kept N info info' (TakesOut i v) f h d = tt
   fine_kept N info info' (Works (Makes plan) c) f h d = (d.0, written_kept info info' plan c f.0 h d.1)
-  fine_kept N info info' (Works Sweeps c) f h d = tt
-  fine_kept N info info' (WalkReads t g) f h d = tt
-  fine_kept N info info' (WalkGoesDown t k) f h d = tt
+  fine_kept N info info' _ f h d = tt
 
   fitting : (N : ℕ) (s : Store D) (info : ℕ → D) → ((n : ℕ) → Reached N s n → suits (info n) (given_by (s.kids n)) ≡ true) → ((q : ℕ) → 1 ≤ q → q ≤ N → Fine info (s.run q)) → Fitting suits N s info
   fitting N s info h g = record { reached = h; plans = λ q x y plan c e. subst (Fine info) e (g q x y) }
@@ -287,7 +227,7 @@ module _ {D : Type 0} (suits : D → Given → Bool) where
       ]
 
 -- A step of the party p.
-module _ {D : Type 0} (suits : D → Given → Bool) (N M : ℕ) (s : Store D) (S : Sound N M s) (info : ℕ → D) (p : ℕ) (a : 1 ≤ p) (b : p ≤ N) where
+module _ {D : Type 0} (suits : D → PerKid Bool → Bool) (N M : ℕ) (s : Store D) (S : Sound N M s) (info : ℕ → D) (p : ℕ) (a : 1 ≤ p) (b : p ≤ N) where
   -- what a store with p's words written has to do with s
   record Near (t : Store D) : Type 0 where
     slots : t.slot ≡ s.slot
@@ -353,30 +293,16 @@ module _ {D : Type 0} (suits : D → Given → Bool) (N M : ℕ) (s : Store D) (
   backs (Makes x) c h = (h.0, tt)
   backs Sweeps c h = tt
 
-  -- the kid that a Make wants at k
-  abbrev pub wants : Plan D → Kid → ℕ
-  wants x k = cond (eqb (kid_at x.kids k) 0) 0 (s.slot p (kid_at x.kids k))
-
-  pub wants_none : (x : Plan D) (k : Kid) → kid_at x.kids k ≡ 0 → wants x k ≡ 0
-  wants_none x k z = cond-true (eqb (kid_at x.kids k) 0) 0 (s.slot p (kid_at x.kids k)) (eq-eqb (kid_at x.kids k) 0 z)
-
-  pub wants_some : (x : Plan D) (k : Kid) → kid_at x.kids k ≢ 0 → wants x k ≡ s.slot p (kid_at x.kids k)
-  wants_some x k z = cond-false (eqb (kid_at x.kids k) 0) 0 (s.slot p (kid_at x.kids k)) (ne_eqb (kid_at x.kids k) 0 z)
-
-  -- the kids before the position h are as wanted, the others none
-  abbrev pub Shape : Plan D → Kids → ℕ → Type 0
-  Shape x ks h = (k : Kid) → (position k < h → kid_at ks k ≡ wants x k) × (h ≤ position k → kid_at ks k ≡ 0)
-
   -- the next kid of a Make, or its end
   module _ (x : Plan D) (c : Place) (e : s.run p ≡ Works (Makes x) c) (fits : suits x.given (given_by x.kids) ≡ true) (t : Store D) (E : Near t) (info' : ℕ → D) (v : ℕ) (wrote : info' v ≡ x.given) where
     wanted_there : (k : Kid) → kid_at x.kids k ≢ 0 → (kid_at x.kids k ≤ last_slot) × (s.slot p (kid_at x.kids k) ≢ 0)
     wanted_there k z = (good N M s S.inv p a b (Makes x) c e).1.wants_is k z
 
-    module _ (sh : (k : Kid) → kid_at (t.kids v) k ≡ wants x k) where
+    module _ (sh : (k : Kid) → kid_at (t.kids v) k ≡ wants (s.slot p) x k) where
       same_given : (k : Kid) → not (eqb (kid_at (t.kids v) k) 0) ≡ not (eqb (kid_at x.kids k) 0)
       same_given k = elim (cases_eq (kid_at x.kids k) 0) [
-        | inl z ↦ ap not (eq-eqb (kid_at (t.kids v) k) 0 (sh k ∙ wants_none x k z) ∙ sym (eq-eqb (kid_at x.kids k) 0 z))
-        | inr z ↦ ap not (ne_eqb (kid_at (t.kids v) k) 0 (λ y. (wanted_there k z).1 (sym (sh k ∙ wants_some x k z) ∙ y)) ∙ sym (ne_eqb (kid_at x.kids k) 0 z))
+        | inl z ↦ ap not (eq-eqb (kid_at (t.kids v) k) 0 (sh k ∙ wants_none (s.slot p) x k z) ∙ sym (eq-eqb (kid_at x.kids k) 0 z))
+        | inr z ↦ ap not (ne_eqb (kid_at (t.kids v) k) 0 (λ y. (wanted_there k z).1 (sym (sh k ∙ wants_some (s.slot p) x k z) ∙ y)) ∙ sym (ne_eqb (kid_at x.kids k) 0 z))
       ]
 
       given_as_planned : given_by (t.kids v) ≡ given_by x.kids
@@ -387,8 +313,8 @@ module _ {D : Type 0} (suits : D → Given → Bool) (N M : ℕ) (s : Store D) (
 
       kid_reached : (k : Kid) → kid_at (t.kids v) k ≢ 0 → Reached N t (kid_at (t.kids v) k)
       kid_reached k z = elim (cases_eq (kid_at x.kids k) 0) [
-        | inl y ↦ absurd (z (sh k ∙ wants_none x k y))
-        | inr y ↦ by_slot p (kid_at x.kids k) a b (omega arith) (wanted_there k y).0 (ap (λ f. f p (kid_at x.kids k)) E.slots ∙ sym (sh k ∙ wants_some x k y)) z
+        | inl y ↦ absurd (z (sh k ∙ wants_none (s.slot p) x k y))
+        | inr y ↦ by_slot p (kid_at x.kids k) a b (omega arith) (wanted_there k y).0 (ap (λ f. f p (kid_at x.kids k)) E.slots ∙ sym (sh k ∙ wants_some (s.slot p) x k y)) z
       ]
 
       end_made : After info' (made x t p v)
@@ -402,47 +328,30 @@ module _ {D : Type 0} (suits : D → Given → Bool) (N M : ℕ) (s : Store D) (
         ];
       }
 
-    end : Shape x (t.kids v) 4 → After info' (made x t p v)
+    end : Shape (s.slot p) x (t.kids v) 4 → After info' (made x t p v)
     end sh = end_made (λ k. (sh k).0 (position_low k))
-
-    skip : (k : Kid) → Shape x (t.kids v) (position k) → kid_at x.kids k ≡ 0 → Shape x (t.kids v) (suc (position k))
-    skip k sh z i = (
-      (λ h. elim (cases_eq (position i) (position k)) [
-        | inl d ↦ position_same (λ j. kid_at (t.kids v) j ≡ wants x j) i k d ((sh k).1 (omega arith) ∙ sym (wants_none x k z))
-        | inr d ↦ (sh i).0 (omega arith)
-      ]),
-      λ h. (sh i).1 (omega arith),
-    )
 
     next : (k : Kid) → After info' (set_run t p (Works (Makes x) (CountKid v k)))
     next k = to t (Works (Makes x) (CountKid v k)) info' E (fits, wrote)
 
-    after_third : Shape x (t.kids v) 3 → After info' (give_third x t p v)
-    after_third sh = cond_both (eqb x.kids.third 0) (made x t p v) (set_run t p (Works (Makes x) (CountKid v Third))) (After info') (λ z. end (skip Third sh (eqb-true x.kids.third 0 z))) (λ _. next Third)
+    after_first : Shape (s.slot p) x (t.kids v) 1 → After info' (give_first x t p v)
+    after_first = first_by (After info') x t p v (Shape (s.slot p) x (t.kids v)) end (λ k _ _. next k) (shape_past (s.slot p) x (t.kids v))
 
-    after_second : Shape x (t.kids v) 2 → After info' (give_second x t p v)
-    after_second sh = cond_both (eqb x.kids.second 0) (give_third x t p v) (set_run t p (Works (Makes x) (CountKid v Second))) (After info') (λ z. after_third (skip Second sh (eqb-true x.kids.second 0 z))) (λ _. next Second)
-
-    after_first : Shape x (t.kids v) 1 → After info' (give_first x t p v)
-    after_first sh = cond_both (eqb x.kids.first 0) (give_second x t p v) (set_run t p (Works (Makes x) (CountKid v First))) (After info') (λ z. after_second (skip First sh (eqb-true x.kids.first 0 z))) (λ _. next First)
-
-    after_kid_lem : (k : Kid) → Shape x (t.kids v) (suc (position k)) → After info' (give_after x t p v k)
-    after_kid_lem First sh = after_second sh
-    after_kid_lem Second sh = after_third sh
-    after_kid_lem Third sh = end sh
+    after_kid_lem : (k : Kid) → Shape (s.slot p) x (t.kids v) (suc (position k)) → After info' (give_after x t p v k)
+    after_kid_lem = after_by (After info') x t p v (Shape (s.slot p) x (t.kids v)) end (λ k _ _. next k) (shape_past (s.slot p) x (t.kids v))
 
   -- the kids of v after a kid is linked
-  pub linked_shape : (y : Plan D) (v : ℕ) (k : Kid) (w : ℕ) → s.run p ≡ Works (Makes y) (LinkKid v k w) → Shape y (upd s.kids v (put_kid (s.kids v) k w) v) (suc (position k))
+  pub linked_shape : (y : Plan D) (v : ℕ) (k : Kid) (w : ℕ) → s.run p ≡ Works (Makes y) (LinkKid v k w) → Shape (s.slot p) y (upd s.kids v (put_kid (s.kids v) k w) v) (suc (position k))
   linked_shape y v k w e i =
       let g = good N M s S.inv p a b (Makes y) (LinkKid v k w) e in
       let u = upd_same s.kids v (put_kid (s.kids v) k w) in
       let wz : w ≢ 0 = (let h = g.2.0.1 in omega arith) in (
         (λ h. elim (cases_eq (position i) (position k)) [
-          | inl d ↦ position_same (λ q. kid_at (upd s.kids v (put_kid (s.kids v) k w) v) q ≡ wants y q) i k d
-              (ap (λ q. kid_at q k) u ∙ put_same (s.kids v) k w ∙ sym (g.0.put_is wz) ∙ sym (wants_some y k g.2.1))
+          | inl d ↦ position_same (λ q. kid_at (upd s.kids v (put_kid (s.kids v) k w) v) q ≡ wants (s.slot p) y q) i k d
+              (ap (λ q. kid_at q k) u ∙ put_same (s.kids v) k w ∙ sym (g.0.put_is wz) ∙ sym (wants_some (s.slot p) y k g.2.1))
           | inr d ↦ ap (λ q. kid_at q i) u ∙ put_other (s.kids v) i k w d ∙ elim (cases_eq (kid_at y.kids i) 0) [
-            | inl o ↦ g.0.none_given i (omega arith) o ∙ sym (wants_none y i o)
-            | inr o ↦ g.0.given i (omega arith) o ∙ sym (wants_some y i o)
+            | inl o ↦ g.0.none_given i (omega arith) o ∙ sym (wants_none (s.slot p) y i o)
+            | inr o ↦ g.0.given i (omega arith) o ∙ sym (wants_some (s.slot p) y i o)
           ]
         ]),
         λ h. ap (λ q. kid_at q i) u ∙ put_other (s.kids v) i k w (λ q. omega arith) ∙ g.0.bare i (omega arith) (position_low i),
@@ -498,27 +407,21 @@ module _ {D : Type 0} (suits : D → Given → Bool) (N M : ℕ) (s : Store D) (
       let g = good N M s S.inv p a b (Makes y) (WriteData v) e in
       after_first y (WriteData v) e h.0 s as_is (upd info v y.given) v (upd_same info v y.given)
       (λ k. ((λ z. absurd (let u = position_pos k in omega arith)), λ z. g.0.bare k z (position_low k)))
-  place_after x (WriteData v) Sweeps e h = absurd (good N M s S.inv p a b Sweeps (WriteData v) e).2.1
   place_after x (CountKid v k) (Makes y) e h =
       let w = s.slot p (kid_at y.kids k) in
       let u = set_count s w (s.count w + 1) in
       to u (Works (Makes y) (LinkKid v k w)) info (near u refl refl refl refl) (h.0, h.1)
-  place_after x (CountKid v k) Sweeps e h = absurd (good N M s S.inv p a b Sweeps (CountKid v k) e).2.1
   place_after x (LinkKid v k w) (Makes y) e h =
       after_kid_lem y (LinkKid v k w) e h.0 (set_kid s v k w) (near_kid v k w (out_one N M s S.inv p a b (S.into p a b) (Makes y) (LinkKid v k w) v e refl)) info v h.1 k (linked_shape y v k w e)
-  place_after x (LinkKid v k w) Sweeps e h = absurd (good N M s S.inv p a b Sweeps (LinkKid v k w) e).2.1
+  place_after x c Sweeps e h = absurd (good N M s S.inv p a b Sweeps c e).2.1
 
   read_fine : (g : Reading D) (d : D) (ks : Kids) → Fine suits info (read_on_at g d ks (λ h. Reads h))
   read_fine ReadNothing d ks = tt
-  read_fine (ReadData e) d ks = tt
-  read_fine (ReadFirst e i) d ks = tt
-  read_fine (ReadSecond e i j) d ks = tt
+  read_fine _ d ks = tt
 
   walk_fine : (t : Situation) (g : Reading D) (d : D) (ks : Kids) → Fine suits info (read_on_at g d ks (λ h. WalkReads t h))
   walk_fine t ReadNothing d ks = tt
-  walk_fine t (ReadData e) d ks = tt
-  walk_fine t (ReadFirst e i) d ks = tt
-  walk_fine t (ReadSecond e i j) d ks = tt
+  walk_fine t _ d ks = tt
 
   down_near : (n : ℕ) → Near (down_to s p n)
   down_near n = let u = set_trail s p (longer (s.trail p) n) in cond_both (eqb n 0) s u Near (λ _. as_is) (λ _. near u refl refl refl refl)
@@ -572,38 +475,13 @@ module _ {D : Type 0} (suits : D → Given → Bool) (N M : ℕ) (s : Store D) (
   same_data = record { seen = λ n r. refl; others = λ q h1 h2 d u h3 o. refl }
 
   unseen_place : (c : Place) (j : Job D) → s.run p ≡ Works j c → Unseen (data_at (Works j c) info)
-  unseen_place OpenTray j e = same_data
-  unseen_place ReadTray j e = same_data
-  unseen_place LookForNode j e = same_data
-  unseen_place (LockNode n) j e = same_data
-  unseen_place (Recheck n) j e = same_data
-  unseen_place (UnlockAndGoBack n) j e = same_data
-  unseen_place (ReadKid n k) j e = same_data
-  unseen_place (ClearKid n k w) j e = same_data
-  unseen_place (UncountKid n k w) j e = same_data
-  unseen_place (Claim n) j e = same_data
-  unseen_place (Unlock n) j e = same_data
-  unseen_place (Offer n) j e = same_data
-  unseen_place (KeepForOneself n) j e = same_data
-  unseen_place (GiveBack n) j e = same_data
-  unseen_place (CloseTray v) j e = same_data
   unseen_place (WriteData v) (Makes y) e = record { seen = not_reached v y e; others = not_carried v y e }
   unseen_place (WriteData v) Sweeps e = same_data
-  unseen_place (CountKid v k) j e = same_data
-  unseen_place (LinkKid v k w) j e = same_data
+  unseen_place _ j e = same_data
 
   pub unseen : (r : Running D) → s.run p ≡ r → Unseen (data_at r info)
-  unseen Idle e = same_data
   unseen (Works j c) e = unseen_place c j e
-  unseen (Reads g) e = same_data
-  unseen (GoesDown k) e = same_data
-  unseen (WalkReads t g) e = same_data
-  unseen (WalkGoesDown t k) e = same_data
-  unseen (Keeps i) e = same_data
-  unseen (Drops i) e = same_data
-  unseen (Fetches i) e = same_data
-  unseen (Hands i q) e = same_data
-  unseen (TakesOut i v) e = same_data
+  unseen _ e = same_data
 
   fits_after : Fitting suits N s info → (info' : ℕ → D) (t : Store D) → Unseen info' → After info' t → Fitting suits N t info'
   fits_after F info' t U A = fitting suits N t info'
@@ -617,13 +495,13 @@ module _ {D : Type 0} (suits : D → Given → Bool) (N M : ℕ) (s : Store D) (
       ])
 
 -- a step keeps the data fitting
-pub fits_turn : {D : Type 0} (suits : D → Given → Bool) (N M : ℕ) (s : Store D) → Sound N M s → (info : ℕ → D) (p : ℕ) → 1 ≤ p → p ≤ N → (x : ℕ) → Fitting suits N s info → Fitting suits N (turn_at (s.run p) s info p x) (data_at (s.run p) info)
+pub fits_turn : {D : Type 0} (suits : D → PerKid Bool → Bool) (N M : ℕ) (s : Store D) → Sound N M s → (info : ℕ → D) (p : ℕ) → 1 ≤ p → p ≤ N → (x : ℕ) → Fitting suits N s info → Fitting suits N (turn_at (s.run p) s info p x) (data_at (s.run p) info)
 fits_turn suits N M s S info p a b x F =
     fits_after suits N M s S info p a b F (data_at (s.run p) info) (turn_at (s.run p) s info p x) (unseen suits N M s S info p a b (s.run p) refl)
     (turn_after suits N M s S info p a b x (s.run p) refl (fine_of suits N s info F p a b))
 
 -- the same of the specification's step, where its store is the explicit one
-pub fits_stepped : {D : Type 0} (W : Type 0) (suits : D → Given → Bool) (N M : ℕ) (s : Store D) → Sound N M s → (info : ℕ → D) (p : ℕ) → 1 ≤ p → p ≤ N → (x : ℕ)
+pub fits_stepped : {D : Type 0} (W : Type 0) (suits : D → PerKid Bool → Bool) (N M : ℕ) (s : Store D) → Sound N M s → (info : ℕ → D) (p : ℕ) → 1 ≤ p → p ≤ N → (x : ℕ)
     → stepped N M s info p x (decision {W = W} N M s info p x) ≡ turn_at (s.run p) s info p x → Fitting suits N s info
     → Fitting suits N (stepped N M s info p x (decision {W = W} N M s info p x)) (data_after N M s info p x (decision {W = W} N M s info p x))
 fits_stepped W suits N M s S info p a b x e F =
@@ -649,7 +527,7 @@ module _ {D W A B : Type 0} (X : Setting D W A B) where
     -- what a decision makes of the store, whether it tells or settles
     moved_fits : Fits F → (p x : ℕ) (w : Word D) (c : Change) (r : Running D) (t : Told D W) → FitsStepped p x (deciding w c r t) → Fitting X.suits X.parties (moved_as X F p x (deciding w c r t) t).store (moved_as X F p x (deciding w c r t) t).info
     moved_fits h p x w c r (Tells o) g = g
-    moved_fits h p x w c r (Settles t e ks) g = fits_settled X.suits X.worth X.blank X.parties F.store F.info h (F.notes p) p t ks
+    moved_fits h p x w c r (Settles n) g = fits_settled X.suits X.worth X.blank X.parties F.store F.info h (F.notes p) p n.situation n.kids
 
     module _ (S : Sound X.parties X.nodes F.store) (h : Fits F) where
       -- an accepted Turn

@@ -3,7 +3,7 @@ use Rattle.std.proofs.Common.{◌≡◌, ℕ, ◌≤◌, Bool, false, cond, eqb,
 use Rattle.std.proofs.lemmas.Bool.{cases_eq, eq-eqb, ne_eqb, cond-false}
 use Rattle.refusals.specs.declared.Refusal.TheVariants.{NoKid, InboxFull, InboxEmpty}
 use Rattle.model.specs.Fun.{upd}
-use Rattle.model.specs.Types.{Kids, Running, Idle, Hands, TakesOut, Read, Down, Keep, Drop, Hand, Fetch, Asked, AsksCall, AtNode, Contents, Outcome, Refused, Ended}
+use Rattle.model.specs.Types.{Ok, Err, Kids, Running, Idle, Hands, TakesOut, Read, Down, Keep, Drop, Hand, Fetch, Asked, AsksCall, AtNode, Contents, Outcome, Ended}
 use Rattle.model.specs.State.{kid_at, Trail, no_trail, last_of, longer, Store, set_count, set_inbox, set_slot, set_trail, set_run, last}
 use Rattle.model.specs.Checks.{last_slot, is_walking}
 use Rattle.model.specs.Begins.{kid_of}
@@ -24,7 +24,7 @@ shown r T = cond (is_walking r) no_trail T
 module _ {D W A B : Type 0} (X : Setting D W A B) where
   -- the same system with another store and other data
   abbrev pub having : System D W A B → Store D → (ℕ → D) → System D W A B
-  having F s info = record { store = s; info = info; notes = F.notes; node_order = F.node_order; party_order = F.party_order }
+  having F s info = record F { store = s; info = info }
 
   -- agreeing speaks of the store and the data alone
   pub agrees_along : (F G : System D W A B) (t : Plain D) → G.store ≡ F.store → G.info ≡ F.info → Agrees X F t → Agrees X G t
@@ -111,21 +111,21 @@ module _ {D W A B : Type 0} (X : Setting D W A B) where
       leaves s = having F s F.info
 
       pub follow_read : (d : D) (i j : ℕ) → Reached X.parties F.store (last F.store p) → d ≡ F.info (last F.store p) → i ≡ (F.store.kids (last F.store p)).first → j ≡ (F.store.kids (last F.store p)).second
-          → Does (AsksCall Read) (Ended (Contents (last F.store p) d (record { first = i; second = j; third = (F.store.kids (last F.store p)).third }))) (leaves (set_run F.store p Idle))
+          → Does (AsksCall Read) (Ok (Ended (Contents (last F.store p) d (record { first = i; second = j; third = (F.store.kids (last F.store p)).third })))) (leaves (set_run F.store p Idle))
       follow_read d i j r ed ei ej =
           let n = last F.store p in
           let u = S.terms n r in
           let ks : Kids = record { first = i; second = j; third = (F.store.kids n).third } in
           let ek : F.store.kids n ≡ ks = (λ z. record { first = sym ei z; second = sym ej z; third = (F.store.kids n).third }) in (
             t,
-            subst (λ m. Happens X t p (AsksCall Read) (Ended (Contents m d ks)) t) last_here
-                (subst (λ v. Happens X t p (AsksCall Read) (Ended (Contents (last_at t p) v ks)) t) (ap t.info last_here ∙ u.1 ∙ sym ed)
-                (subst (λ v. Happens X t p (AsksCall Read) (Ended (Contents (last_at t p) (t.info (last_at t p)) v)) t) (ap t.kids last_here ∙ u.0 ∙ ek) reads)),
+            subst (λ m. Happens X t p (AsksCall Read) (Ok (Ended (Contents m d ks))) t) last_here
+                (subst (λ v. Happens X t p (AsksCall Read) (Ok (Ended (Contents (last_at t p) v ks))) t) (ap t.info last_here ∙ u.1 ∙ sym ed)
+                (subst (λ v. Happens X t p (AsksCall Read) (Ok (Ended (Contents (last_at t p) (t.info (last_at t p)) v))) t) (ap t.kids last_here ∙ u.0 ∙ ek) reads)),
             ends_still,
           )
 
       pub follow_down : (i : ℕ) → Reached X.parties F.store (last F.store p)
-          → Does (AsksCall (Down i)) (cond (eqb (kid_at (F.store.kids (last F.store p)) (kid_of i)) 0) (Refused NoKid) (Ended (AtNode (kid_at (F.store.kids (last F.store p)) (kid_of i)))))
+          → Does (AsksCall (Down i)) (cond (eqb (kid_at (F.store.kids (last F.store p)) (kid_of i)) 0) (Err NoKid) (Ok (Ended (AtNode (kid_at (F.store.kids (last F.store p)) (kid_of i))))))
           (leaves (set_run (down_to F.store p (kid_at (F.store.kids (last F.store p)) (kid_of i))) p Idle))
       follow_down i r =
           let n = kid_at (F.store.kids (last F.store p)) (kid_of i) in
@@ -134,7 +134,7 @@ module _ {D W A B : Type 0} (X : Setting D W A B) where
           let V : Trail = longer (t.trail p) n in
           let u : Plain D = put_trail t p V in
           let G = leaves (set_run (set_trail F.store p T) p Idle) in
-          let P : Bool → Type 0 = λ v. Does (AsksCall (Down i)) (cond v (Refused NoKid) (Ended (AtNode n))) (leaves (set_run (cond v F.store (set_trail F.store p T)) p Idle)) in
+          let P : Bool → Type 0 = λ v. Does (AsksCall (Down i)) (cond v (Err NoKid) (Ok (Ended (AtNode n)))) (leaves (set_run (cond v F.store (set_trail F.store p T)) p Idle)) in
           elim (cases_eq n 0) [
             | inl z ↦ subst P (sym (eq-eqb n 0 z)) (t, no_kid_there (sym en ∙ z), ends_still)
             | inr z ↦ subst P (sym (ne_eqb n 0 z))
@@ -156,52 +156,52 @@ module _ {D W A B : Type 0} (X : Setting D W A B) where
       boxes_stay q h1 h2 z = by_box q h1 h2 refl z
 
       pub follow_keep : (i n : ℕ) → Reached X.parties F.store (last F.store p)
-          → Does (AsksCall (Keep i)) (Ended (AtNode (last F.store p))) (leaves (set_run (set_slot (set_count F.store (last F.store p) n) p i (last F.store p)) p Idle))
+          → Does (AsksCall (Keep i)) (Ok (Ended (AtNode (last F.store p)))) (leaves (set_run (set_slot (set_count F.store (last F.store p) n) p i (last F.store p)) p Idle))
       follow_keep i n r =
           let v = last F.store p in
           let m = last_at t p in
           let s = set_run (set_slot (set_count F.store v n) p i v) p Idle in (
             put_slot t p i m,
-            subst (λ k. Happens X t p (AsksCall (Keep i)) (Ended (AtNode k)) (put_slot t p i m)) last_here keeps,
+            subst (λ k. Happens X t p (AsksCall (Keep i)) (Ok (Ended (AtNode k))) (put_slot t p i m)) last_here keeps,
             agrees_by (leaves s) (put_slot t p i m) refl refl (ap (λ f. upd f p (upd (f p) i m)) S.slots ∙ ap (λ k. upd F.store.slot p (upd (F.store.slot p) i k)) last_here) S.inboxes idle_trails
                 (fills i v s (λ _. r) refl boxes_stay refl),
           )
 
-      pub follow_drop : (i n : ℕ) → Does (AsksCall (Drop i)) (Ended (AtNode (F.store.slot p i))) (leaves (set_run (set_slot (set_count F.store (F.store.slot p i) n) p i 0) p Idle))
+      pub follow_drop : (i n : ℕ) → Does (AsksCall (Drop i)) (Ok (Ended (AtNode (F.store.slot p i)))) (leaves (set_run (set_slot (set_count F.store (F.store.slot p i) n) p i 0) p Idle))
       follow_drop i n =
           let s = set_run (set_slot (set_count F.store (F.store.slot p i) n) p i 0) p Idle in (
             put_slot t p i 0,
-            subst (λ f. Happens X t p (AsksCall (Drop i)) (Ended (AtNode (f p i))) (put_slot t p i 0)) S.slots drops,
+            subst (λ f. Happens X t p (AsksCall (Drop i)) (Ok (Ended (AtNode (f p i)))) (put_slot t p i 0)) S.slots drops,
             agrees_by (leaves s) (put_slot t p i 0) refl refl (ap (λ f. upd f p (upd (f p) i 0)) S.slots) S.inboxes idle_trails (fills i 0 s (λ z. absurd (z refl)) refl boxes_stay refl),
           )
 
-      pub follow_hand : (i q : ℕ) → 1 ≤ i → i ≤ last_slot → Does (AsksCall (Hand i q)) (cond (eqb (F.store.inbox q) 0) (Ended (AtNode (F.store.slot p i))) (Refused InboxFull)) (leaves (turn_at (Hands i q) F.store F.info p 0))
+      pub follow_hand : (i q : ℕ) → 1 ≤ i → i ≤ last_slot → Does (AsksCall (Hand i q)) (cond (eqb (F.store.inbox q) 0) (Ok (Ended (AtNode (F.store.slot p i)))) (Err InboxFull)) (leaves (turn_at (Hands i q) F.store F.info p 0))
       follow_hand i q low high =
           let v = F.store.slot p i in
           let s = set_run (set_slot (set_inbox F.store q v) p i 0) p Idle in
           let u = put_slot (put_inbox t q (t.slot p i)) p i 0 in
-          let P : Bool → Type 0 = λ c. Does (AsksCall (Hand i q)) (cond c (Ended (AtNode v)) (Refused InboxFull)) (leaves (cond c s (set_run F.store p Idle))) in
+          let P : Bool → Type 0 = λ c. Does (AsksCall (Hand i q)) (cond c (Ok (Ended (AtNode v))) (Err InboxFull)) (leaves (cond c s (set_run F.store p Idle))) in
           elim (cases_eq (F.store.inbox q) 0) [
             | inl z ↦ subst P (sym (eq-eqb (F.store.inbox q) 0 z)) (
               u,
-              subst (λ f. Happens X t p (AsksCall (Hand i q)) (Ended (AtNode (f p i))) u) S.slots (hands (ap (λ f. f q) S.inboxes ∙ z)),
+              subst (λ f. Happens X t p (AsksCall (Hand i q)) (Ok (Ended (AtNode (f p i)))) u) S.slots (hands (ap (λ f. f q) S.inboxes ∙ z)),
               agrees_by (leaves s) u refl refl (ap (λ f. upd f p (upd (f p) i 0)) S.slots) (ap (λ f. upd t.inbox q (f p i)) S.slots ∙ ap (λ f. upd f q v) S.inboxes) idle_trails
                   (fills i 0 s (λ y. absurd (y refl)) refl (box_reached X.suits X.parties X.nodes F.store U F.info p a b q v (λ y. by_slot p i a b low high refl y)) refl),
             )
             | inr z ↦ subst P (sym (ne_eqb (F.store.inbox q) 0 z)) (t, inbox_full (λ y. z (ap (λ f. f q) (sym S.inboxes) ∙ y)), ends_still)
           ]
 
-      pub follow_take : (i v : ℕ) → F.store.inbox p ≡ v → v ≢ 0 → Does (AsksCall (Fetch i)) (Ended (AtNode v)) (leaves (turn_at (TakesOut i v) F.store F.info p 0))
+      pub follow_take : (i v : ℕ) → F.store.inbox p ≡ v → v ≢ 0 → Does (AsksCall (Fetch i)) (Ok (Ended (AtNode v))) (leaves (turn_at (TakesOut i v) F.store F.info p 0))
       follow_take i v e z =
           let s = set_run (set_slot (set_inbox F.store p 0) p i v) p Idle in
           let et : t.inbox p ≡ v = ap (λ f. f p) S.inboxes ∙ e in
           let u = put_slot (put_inbox t p 0) p i (t.inbox p) in (
             u,
-            subst (λ m. Happens X t p (AsksCall (Fetch i)) (Ended (AtNode m)) u) et (fetches (λ y. z (sym et ∙ y))),
+            subst (λ m. Happens X t p (AsksCall (Fetch i)) (Ok (Ended (AtNode m))) u) et (fetches (λ y. z (sym et ∙ y))),
             agrees_by (leaves s) u refl refl (ap (λ f. upd f p (upd (f p) i (t.inbox p))) S.slots ∙ ap (λ m. upd F.store.slot p (upd (F.store.slot p) i m)) et) (ap (λ f. upd f p 0) S.inboxes) idle_trails
                 (fills i v s (λ _. by_box p a b e z) refl (box_reached X.suits X.parties X.nodes F.store U F.info p a b p 0 (λ y. absurd (y refl))) refl),
           )
 
       -- Fetch's first step at an empty inbox
-      pub follow_no_fetch : (i : ℕ) → F.store.inbox p ≡ 0 → Does (AsksCall (Fetch i)) (Refused InboxEmpty) (leaves (set_run F.store p Idle))
+      pub follow_no_fetch : (i : ℕ) → F.store.inbox p ≡ 0 → Does (AsksCall (Fetch i)) (Err InboxEmpty) (leaves (set_run F.store p Idle))
       follow_no_fetch i e = (t, inbox_empty (ap (λ f. f p) S.inboxes ∙ e), ends_still)

@@ -2,7 +2,7 @@
 use Rattle.std.proofs.Common.{◌≡◌, ℕ, ◌+◌, ◌<◌, ◌≤◌, ◌≢◌, ◌⊎◌, sym, refl, ap, ◌∙◌, subst, inl, inr, arith}
 use Rattle.std.proofs.lemmas.Bool.{cases_eq}
 use Rattle.model.specs.Fun.{upd, is}
-use Rattle.model.specs.Types.{Kid, Tray, Open, Holding, Place, OpenTray, ReadTray, LookForNode, LockNode, Recheck, UnlockAndGoBack, ReadKid, ClearKid, UncountKid, Claim, Unlock, Offer, KeepForOneself, GiveBack, CloseTray, WriteData, CountKid, LinkKid, Running, Idle, Reads, GoesDown, Keeps, Drops, Hands, Fetches, TakesOut, Works, WalkReads, WalkGoesDown}
+use Rattle.model.specs.Types.{Kid, Tray, Open, Holding, Place, LockNode, Recheck, UnlockAndGoBack, ReadKid, ClearKid, UncountKid, Claim, Unlock, Offer, KeepForOneself, GiveBack, WriteData, CountKid, LinkKid, Running, Works}
 use Rattle.model.specs.State.{kid_at, put_kid, Store, set_count, set_lock, set_kid, set_inbox, set_tray, set_slot, set_run}
 use Rattle.model.specs.Inv.{Reliance, reliance_at, reliance, needs_of, tray_node, carry, in_slots, in_boxes, in_kids, refs, Local, Own, LocalOf, Good, Bare, Inv}
 use Rattle.model.proofs.Sums.{upd_same, upd_other}
@@ -21,75 +21,37 @@ abbrev Tied : Reliance → Type 0
 Tied c = (c.empty ≡ c.node) ⊎ ((c.one ≡ c.node) ⊎ ((c.hi ≡ 0) × (c.pend ≡ 0) × (c.up ≡ 0)))
 
 tied_place : (c : Place) → Tied (reliance_at c)
-tied_place OpenTray = inl refl
-tied_place ReadTray = inl refl
-tied_place LookForNode = inl refl
 tied_place (LockNode n) = inr (inr (refl, refl, refl))
 tied_place (Recheck n) = inr (inr (refl, refl, refl))
 tied_place (UnlockAndGoBack n) = inr (inr (refl, refl, refl))
-tied_place (ReadKid n k) = inl refl
-tied_place (ClearKid n k w) = inl refl
-tied_place (UncountKid n k w) = inl refl
-tied_place (Claim n) = inl refl
 tied_place (Unlock n) = inr (inl refl)
 tied_place (Offer n) = inr (inl refl)
 tied_place (KeepForOneself n) = inr (inl refl)
 tied_place (GiveBack n) = inr (inl refl)
-tied_place (CloseTray n) = inl refl
 tied_place (WriteData n) = inr (inl refl)
 tied_place (CountKid v k) = inr (inl refl)
 tied_place (LinkKid v k w) = inr (inl refl)
+tied_place _ = inl refl
 
 -- a node that is held empty is locked
 abbrev Shut : Reliance → Type 0
 Shut c = (c.empty ≡ 0) ⊎ (c.locked ≡ c.empty)
 
 shut_place : (c : Place) → Shut (reliance_at c)
-shut_place OpenTray = inl refl
-shut_place ReadTray = inl refl
-shut_place LookForNode = inl refl
-shut_place (LockNode n) = inl refl
-shut_place (Recheck n) = inl refl
-shut_place (UnlockAndGoBack n) = inl refl
 shut_place (ReadKid n k) = inr refl
 shut_place (ClearKid n k w) = inr refl
 shut_place (UncountKid n k w) = inr refl
 shut_place (Claim n) = inr refl
-shut_place (Unlock n) = inl refl
-shut_place (Offer n) = inl refl
-shut_place (KeepForOneself n) = inl refl
-shut_place (GiveBack n) = inl refl
-shut_place (CloseTray n) = inl refl
-shut_place (WriteData n) = inl refl
-shut_place (CountKid v k) = inl refl
-shut_place (LinkKid v k w) = inl refl
+shut_place _ = inl refl
 
 module _ {D : Type 0} where
   tied : (r : Running D) → Tied (reliance r)
-  tied Idle = inl refl
-  tied (Reads g) = inl refl
-  tied (GoesDown k) = inl refl
-  tied (WalkReads t g) = inl refl
-  tied (WalkGoesDown t k) = inl refl
   tied (Works j c) = tied_place c
-  tied (Keeps i) = inl refl
-  tied (Drops i) = inl refl
-  tied (Fetches i) = inl refl
-  tied (Hands i q) = inl refl
-  tied (TakesOut i v) = inl refl
+  tied _ = inl refl
 
   shut : (r : Running D) → Shut (reliance r)
-  shut Idle = inl refl
-  shut (Reads g) = inl refl
-  shut (GoesDown k) = inl refl
-  shut (WalkReads t g) = inl refl
-  shut (WalkGoesDown t k) = inl refl
   shut (Works j c) = shut_place c
-  shut (Keeps i) = inl refl
-  shut (Drops i) = inl refl
-  shut (Fetches i) = inl refl
-  shut (Hands i q) = inl refl
-  shut (TakesOut i v) = inl refl
+  shut _ = inl refl
 
 -- nobody but p relies on the count or the kids of n
 pub record Alone {D : Type 0} (N : ℕ) (s : Store D) (p n : ℕ) : Type 0 where

@@ -1,13 +1,14 @@
 -- Every store that can exist is sound, and its orders are made for it.
 use Rattle.std.proofs.Common.{◌≡◌, ℕ, ◌+◌, ◌*◌, ◌≤◌, Bool, true, false, sym, refl, ap, ◌∙◌, subst, arith}
 use Rattle.std.proofs.lemmas.Bool.{true≢false}
-use Rattle.model.specs.Types.{ReadNothing, ReadData, ReadFirst, ReadSecond, Running, Idle, Reads, GoesDown, Keeps, Drops, Hands, Fetches, TakesOut, Works, WalkReads, WalkGoesDown, Outcome, Situation, Told, Tells, Settles, Decision}
+use Rattle.orders.specs.Meaning.{Picked}
+use Rattle.model.specs.Types.{Event, ReadSecond, Running, Idle, WalkReads, Outcome, Situation, Told, Tells, Settles, Decision}
 use Rattle.model.specs.State.{last}
 use Rattle.model.specs.Steps.{address, decision, stepped, looks_at, loaded, decide}
 use Rattle.model.specs.Checks.{is_idle}
 use Rattle.model.specs.Sound.{Sound}
 use Rattle.model.specs.Setting.{Meaning, Setting, WithinLimits}
-use Rattle.model.specs.Runs.{System, Event, Moves, begin_refused, call_begun, walk_begun, turn_refused, turn, walk_turn_refused, walk_turn, Steps, moved, moved_as, Asks, asks_nodes, asks_parties}
+use Rattle.model.specs.Runs.{System, Moves, begin_refused, call_begun, walk_begun, turn_refused, turn, walk_turn_refused, walk_turn, Steps, moved, moved_as, Asks, asks_nodes, asks_parties}
 use Rattle.model.specs.Opened.{New, Sized}
 use Rattle.model.specs.Existing.{CanExist, new, moved as then-moved, CountsAreReferences, NoNodeReachesItself, CountsAreAtMost, NoTrailOutgrowsTheNodes}
 use Rattle.model.proofs.Accepted.{turn_passed, walk_turn_passed}
@@ -19,9 +20,10 @@ use Rattle.model.proofs.Stepped.{sound_stepped, sound_settled}
 use Rattle.model.proofs.Tells.{TellsAtOnce, IsFourth, tells_at_once}
 use Rattle.model.proofs.Trails.{trail_fits}
 
-asked_or_not : {O : Type 0} (m : Meaning O) (asked : Bool) (old later : O) (p x : ℕ) → Asks m asked old later p x → m.numbers later ≡ m.numbers old
-asked_or_not m true old later p x a = (a.picks refl).numbers_stay
-asked_or_not m false old later p x a = ap m.numbers (a.rests refl)
+-- what a pick leaves of an order, an order that is not asked keeps too
+pub asked_or_not : {O V : Type 0} (m : Meaning O) (f : O → V) (asked : Bool) (old later : O) (p x : ℕ) → (Picked m.numbers m.horizon m.due old later p x → f later ≡ f old) → Asks m asked old later p x → f later ≡ f old
+asked_or_not m f true old later p x h a = h (a.picks refl)
+asked_or_not m f false old later p x h a = ap f (a.rests refl)
 
 module _ {D W A B : Type 0} (X : Setting D W A B) where
   pub record Kept (F : System D W A B) : Type 0 where
@@ -36,7 +38,7 @@ module _ {D W A B : Type 0} (X : Setting D W A B) where
 
     told_sound : (T : Told D W) → TellsAtOnce T → Sound X.parties X.nodes (stepped X.parties X.nodes F.store F.info p x here) → Sound X.parties X.nodes (moved_as X F p x here T).store
     told_sound (Tells o) h s = s
-    told_sound (Settles t y ks) h s = absurd h
+    told_sound (Settles n) h s = absurd h
 
     at_once : (r : Running D) → F.store.run p ≡ r → is_idle r ≡ false → (IsFourth r → ⊥) → Sound X.parties X.nodes (moved X F p x).store
     at_once r e i f = told_sound here.told
@@ -45,10 +47,10 @@ module _ {D W A B : Type 0} (X : Setting D W A B) where
 
     -- a walk's fourth reading settles its node
     settles : (t : Situation) (d : D) (j k : ℕ) → F.store.run p ≡ WalkReads t (ReadSecond d j k)
-        → here.told ≡ Settles t d (record { first = j; second = k; third = (F.store.kids (last F.store p)).third })
+        → here.told ≡ Settles (record { situation = t; given = d; kids = record { first = j; second = k; third = (F.store.kids (last F.store p)).third } })
     settles t d j k e =
         let P : Running D → Type 0 = λ r. (decide {W = W} r (loaded F.store F.info (address X.parties X.nodes r p x (F.store.slot p) (last F.store p))) p x (F.store.slot p) (last F.store p)).told
-        ≡ Settles t d (record { first = j; second = k; third = (F.store.kids (last F.store p)).third }) in
+        ≡ Settles (record { situation = t; given = d; kids = record { first = j; second = k; third = (F.store.kids (last F.store p)).third } }) in
         subst P (sym e) refl
 
     fourth : (t : Situation) (d : D) (j k : ℕ) → F.store.run p ≡ WalkReads t (ReadSecond d j k) → Sound X.parties X.nodes (moved X F p x).store
@@ -58,27 +60,16 @@ module _ {D W A B : Type 0} (X : Setting D W A B) where
 
     pub moved_sound : (r : Running D) → F.store.run p ≡ r → is_idle r ≡ false → Sound X.parties X.nodes (moved X F p x).store
     moved_sound Idle e i = absurd (true≢false i)
-    moved_sound (Reads g) e i = at_once (Reads g) e i (λ z. z)
-    moved_sound (GoesDown k) e i = at_once (GoesDown k) e i (λ z. z)
-    moved_sound (Keeps j) e i = at_once (Keeps j) e i (λ z. z)
-    moved_sound (Drops j) e i = at_once (Drops j) e i (λ z. z)
-    moved_sound (Hands j q) e i = at_once (Hands j q) e i (λ z. z)
-    moved_sound (Fetches j) e i = at_once (Fetches j) e i (λ z. z)
-    moved_sound (TakesOut j v) e i = at_once (TakesOut j v) e i (λ z. z)
-    moved_sound (Works j c) e i = at_once (Works j c) e i (λ z. z)
-    moved_sound (WalkReads t ReadNothing) e i = at_once (WalkReads t ReadNothing) e i (λ z. z)
-    moved_sound (WalkReads t (ReadData d)) e i = at_once (WalkReads t (ReadData d)) e i (λ z. z)
-    moved_sound (WalkReads t (ReadFirst d j)) e i = at_once (WalkReads t (ReadFirst d j)) e i (λ z. z)
     moved_sound (WalkReads t (ReadSecond d j k)) e i = fourth t d j k e
-    moved_sound (WalkGoesDown t k) e i = at_once (WalkGoesDown t k) e i (λ z. z)
+    moved_sound c e i = at_once c e i (λ z. z)
 
   steps_keep : {F G : System D W A B} {p : ℕ} {o : Outcome D W} → Kept F → (1 ≤ p) × (p ≤ X.parties) → is_idle (F.store.run p) ≡ false → Steps X F p o G → Kept G
   steps_keep {F} {G} {p} K is runs m = record {
     limits = K.limits;
     sound = subst (Sound X.parties X.nodes) (sym m.store_is) (moved_sound F K.sound p is.0 is.1 m.pick (F.store.run p) refl runs);
     sized = record {
-      nodes = asked_or_not X.node_order (asks_nodes (F.store.run p)) F.node_order G.node_order p m.pick m.node_picks ∙ K.sized.nodes;
-      parties = asked_or_not X.party_order (asks_parties (F.store.run p)) F.party_order G.party_order p m.pick m.party_picks ∙ K.sized.parties;
+      nodes = asked_or_not X.node_order X.node_order.numbers (asks_nodes (F.store.run p)) F.node_order G.node_order p m.pick (λ u. u.numbers_stay) m.node_picks ∙ K.sized.nodes;
+      parties = asked_or_not X.party_order X.party_order.numbers (asks_parties (F.store.run p)) F.party_order G.party_order p m.pick (λ u. u.numbers_stay) m.party_picks ∙ K.sized.parties;
     };
   }
 
@@ -107,8 +98,8 @@ module _ {D W A B : Type 0} (X : Setting D W A B) where
   pub no_trail_outgrows_the_nodes : NoTrailOutgrowsTheNodes X
   no_trail_outgrows_the_nodes F c q low high = trail_fits X.parties X.nodes F.store (existing_kept F c).sound q low high
 
-  pub counts_are_at_most : CountsAreAtMost X (12 * X.parties + 3 * X.nodes)
-  counts_are_at_most F c n low high =
+  pub counts_are_at_most : {most : ℕ} → most ≡ 12 * X.parties + 3 * X.nodes → CountsAreAtMost X most
+  counts_are_at_most is F c n low high =
       let e = (existing_kept F c).sound.inv.counts n low in
       let N = X.parties in
-      omega (arith, e, few_slots N n F.store.slot, few_boxes N n F.store.inbox, few_trays N n F.store.tray, few_carriers N n F.store.run, few_kids X.nodes n F.store.kids)
+      omega (arith, is, e, few_slots N n F.store.slot, few_boxes N n F.store.inbox, few_trays N n F.store.tray, few_carriers N n F.store.run, few_kids X.nodes n F.store.kids)

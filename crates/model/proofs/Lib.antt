@@ -1,9 +1,13 @@
 pub mod Explicit
+pub mod Gives
+pub mod Between
 pub mod Sums
-pub mod Entries
+pub mod EntryLemmas
+pub mod TrailRecords
 pub mod Refs
 pub mod Frames
 pub mod Make
+pub mod Wants
 pub mod Fill
 pub mod Reached
 pub mod Turn
@@ -18,6 +22,7 @@ pub mod Stepped
 pub mod NewStore
 pub mod Tells
 pub mod Kept
+pub mod Logs
 pub mod Fitting
 pub mod FitsAlways
 pub mod Resting

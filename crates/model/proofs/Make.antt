@@ -1,5 +1,5 @@
 -- Every step of Make and Sweep keeps the invariant.
-use Rattle.std.proofs.Common.{◌≡◌, ℕ, suc, ◌+◌, ◌-◌, ◌<◌, ◌≤◌, true, eqb, ◌≢◌, sym, refl, ap, ◌∙◌, subst, inl, inr, arith}
+use Rattle.std.proofs.Common.{◌≡◌, ℕ, suc, ◌+◌, ◌-◌, ◌<◌, ◌≤◌, true, ◌≢◌, sym, refl, ap, ◌∙◌, subst, inl, inr, arith}
 use Rattle.std.proofs.lemmas.Bool.{cases_eq, cases_lt, cond_both, eqb-true, eqb-false}
 use Rattle.model.specs.Fun.{upd, is}
 use Rattle.model.specs.Types.{Kid, First, Second, Third, Kids, Tray, Closed, Open, Holding, Place, OpenTray, ReadTray, LookForNode, LockNode, Recheck, UnlockAndGoBack, ReadKid, ClearKid, UncountKid, Claim, Unlock, Offer, CloseTray, WriteData, Job, Makes, Sweeps, Running, Works}
@@ -39,14 +39,9 @@ plain M count lock kids t f q n l e o x a b w h1 h2 h3 h4 h5 = record {
 
 pub position_same : (P : Kid → Type 0) (i k : Kid) → position i ≡ position k → P k → P i
 position_same P First First e h = h
-position_same P First Second e h = absurd (omega arith)
-position_same P First Third e h = absurd (omega arith)
-position_same P Second First e h = absurd (omega arith)
 position_same P Second Second e h = h
-position_same P Second Third e h = absurd (omega arith)
-position_same P Third First e h = absurd (omega arith)
-position_same P Third Second e h = absurd (omega arith)
 position_same P Third Third e h = h
+position_same P _ _ e h = absurd (omega arith)
 
 pub put_same : (ks : Kids) (k : Kid) (v : ℕ) → kid_at (put_kid ks k v) k ≡ v
 put_same ks First v = refl
@@ -55,14 +50,9 @@ put_same ks Third v = refl
 
 pub put_other : (ks : Kids) (i k : Kid) (v : ℕ) → position i ≢ position k → kid_at (put_kid ks k v) i ≡ kid_at ks i
 put_other ks First First v z = absurd (z refl)
-put_other ks First Second v z = refl
-put_other ks First Third v z = refl
-put_other ks Second First v z = refl
 put_other ks Second Second v z = absurd (z refl)
-put_other ks Second Third v z = refl
-put_other ks Third First v z = refl
-put_other ks Third Second v z = refl
 put_other ks Third Third v z = absurd (z refl)
+put_other ks _ _ v z = refl
 
 pub after_kid_claim : (n : ℕ) (k : Kid) → reliance_at (after_kid n k) ≡ relies n n n 0 0 1 (suc (position k))
 after_kid_claim n First = refl
@@ -76,11 +66,8 @@ after_kid_fit n Third h = h
 
 pub after_kid_job : {D : Type 0} (j : Job D) (n : ℕ) (k : Kid) → FitJob j (after_kid n k)
 after_kid_job (Makes x) n First = tt
-after_kid_job (Makes x) n Second = tt
-after_kid_job (Makes x) n Third = tt
 after_kid_job Sweeps n First = tt
-after_kid_job Sweeps n Second = tt
-after_kid_job Sweeps n Third = tt
+after_kid_job _ n _ = tt
 
 pub position_low : (k : Kid) → position k < 4
 position_low First = omega arith
@@ -135,14 +122,14 @@ module _ {D : Type 0} (N M : ℕ) (s : Store D) (I : Inv N M s) (p : ℕ) (a : 1
   -- LookForNode reads the count of the node that the order picks
   pub at_LookForNode : (j : Job D) (x : ℕ) → s.run p ≡ Works j LookForNode → 1 ≤ x → x ≤ M → FitJob j (LockNode x) → Inv N M (place_step LookForNode j s p x)
   at_LookForNode j x e h1 h2 f =
-      cond_both (eqb (s.count x) 0) (set_run s p (Works j (LockNode x))) (set_run s p (back j)) (Inv N M)
+      cond_both _ _ _ (Inv N M)
       (λ z. quiet j LookForNode e (LockNode x) refl (λ m. refl) (plain M s.count s.lock s.kids (s.tray p) (s.slot p) p x 0 0 0 0 0 0 (needs_job j).wants h2 (λ z. absurd (z refl)) (λ z. absurd (z refl)) (λ z. absurd (z refl)) (λ k y z. absurd (omega arith))) h1 f)
       (λ z. to_back j LookForNode e refl (λ m. refl))
 
   pub at_LockNode : (j : Job D) (n x : ℕ) → s.run p ≡ Works j (LockNode n) → FitJob j (Recheck n) → Inv N M (place_step (LockNode n) j s p x)
   at_LockNode j n x e f =
       let g = good j (LockNode n) e in
-      cond_both (eqb (s.lock n) 0) (set_run (set_lock s n p) p (Works j (Recheck n))) (set_run s p (back j)) (Inv N M)
+      cond_both _ _ _ (Inv N M)
       (λ z. take_step N M s I p n (Works j (Recheck n)) a b g.2.0 (eqb-true (s.lock n) 0 z) refl (ap (λ t. (reliance t).locked) e)
       (same_carry (Works j (LockNode n)) e (Works j (Recheck n)) (λ m. refl))
       (plain M s.count (upd s.lock n p) s.kids (s.tray p) (s.slot p) p n n 0 0 0 0 0 (needs_job j).wants g.0.within (λ z. upd_same s.lock n p) (λ z. absurd (z refl)) (λ z. absurd (z refl)) (λ k y z. absurd (omega arith)), g.1, (g.2.0, f)))
@@ -152,7 +139,7 @@ module _ {D : Type 0} (N M : ℕ) (s : Store D) (I : Inv N M s) (p : ℕ) (a : 1
   at_Recheck j n x e f f' =
       let g = good j (Recheck n) e in
       let l : s.lock n ≡ p = g.0.lock_is (let h = g.2.0 in omega arith) in
-      cond_both (eqb (s.count n) 0) (set_run s p (Works j (ReadKid n First))) (set_run s p (Works j (UnlockAndGoBack n))) (Inv N M)
+      cond_both _ _ _ (Inv N M)
       (λ z. quiet j (Recheck n) e (ReadKid n First) refl (λ m. refl) (plain M s.count s.lock s.kids (s.tray p) (s.slot p) p n n n 0 0 1 1 (needs_job j).wants g.0.within (λ _. l) (λ _. eqb-true (s.count n) 0 z) (λ z. absurd (z refl)) (λ k y z. absurd (omega arith))) g.2.0 f)
       (λ z. quiet j (Recheck n) e (UnlockAndGoBack n) refl (λ m. refl) (plain M s.count s.lock s.kids (s.tray p) (s.slot p) p n n 0 0 0 0 0 (needs_job j).wants g.0.within (λ _. l) (λ z. absurd (z refl)) (λ z. absurd (z refl)) (λ k y z. absurd (omega arith))) g.2.0 f')
 
@@ -173,7 +160,7 @@ module _ {D : Type 0} (N M : ℕ) (s : Store D) (I : Inv N M s) (p : ℕ) (a : 1
       let g = good j (ReadKid n k) e in
       let nz : n ≢ 0 = (let h = g.2.0 in omega arith) in
       let w = kid_at (s.kids n) k in
-      cond_both (eqb w 0) (set_run s p (Works j (after_kid n k))) (set_run s p (Works j (ClearKid n k w))) (Inv N M)
+      cond_both _ _ _ (Inv N M)
       (λ z. quiet j (ReadKid n k) e (after_kid n k) (ap (λ t. t.locked) (after_kid_claim n k)) (λ m. ap (λ t. is t.one m + is t.other m) (sym (after_kid_claim n k)))
       (subst (λ t. LocalOf M s p t (needs_job j).wants) (sym (after_kid_claim n k))
       (cleared s n k 0 (needs_job j).wants g.0.within (g.0.lock_is nz) (g.0.empty_is nz) (λ i u. g.0.bare i (position_pos i) u) (eqb-true w 0 z)))

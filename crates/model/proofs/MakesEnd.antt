@@ -1,28 +1,29 @@
 -- Make's bound along a run, from any moment of the Make.
-use Rattle.std.proofs.Common.{◌≡◌, ℕ, zero, suc, ◌+◌, ◌-◌, ◌*◌, ◌<◌, ◌≤◌, Bool, true, false, cond, ◌&&◌, eqb, ◌≢◌, ◌∷◌, sym, refl, ap, ◌∙◌, subst, inl, inr, true≢false, mul_assoc, arith}
+use Rattle.std.proofs.Common.{◌≡◌, ℕ, zero, suc, ◌+◌, ◌-◌, ◌*◌, ◌<◌, ◌≤◌, Bool, true, false, ◌&&◌, eqb, ◌≢◌, ◌∷◌, sym, refl, ap, ◌∙◌, subst, inl, inr, true≢false, mul_assoc, arith}
 use Rattle.std.proofs.lemmas.Bool.{cases_eq, eq-eqb, ne_eqb, cond-true, cond-false, and_left, and_right, and_from}
 use Rattle.orders.specs.Limits.{IsParty}
 use Rattle.orders.specs.Meaning.{IsNumber}
-use Rattle.model.specs.Types.{Place, Plan, Job, Makes, Sweeps, Running, Idle, Reads, GoesDown, Keeps, Drops, Hands, Fetches, TakesOut, Works, WalkReads, WalkGoesDown, Outcome, AsksCall, AsksWalk}
+use Rattle.model.specs.Types.{Event, Turns, WalkTurns, Place, Plan, Job, Makes, Running, Idle, Works, Outcome, AsksCall, AsksWalk}
 use Rattle.model.specs.Checks.{is_idle}
 use Rattle.model.specs.Reach.{Free}
 use Rattle.model.specs.Sound.{opens, SeekersOpen}
 use Rattle.model.specs.Setting.{Meaning, Setting}
-use Rattle.model.specs.Runs.{System, Event, turns, walk_turns, asks_nodes, asks_parties, Steps, Moves, begin_refused, call_begun, walk_begun, turn_refused, turn, walk_turn_refused, walk_turn, Log, Run, still, more, AtEachMoment, is_turn_of, is_accepted, is_end, turns_of, ends_of}
+use Rattle.model.specs.Runs.{System, asks_nodes, asks_parties, Steps, Moves, begin_refused, call_begun, walk_begun, turn_refused, turn, walk_turn_refused, walk_turn, Log, Run, still, more, AtEachMoment, is_turn_of, is_accepted, is_end, turns_of, ends_of}
 use Rattle.model.specs.Law.{is_making, SomeFree, make_bound, MakesEnd}
 use Rattle.model.specs.Existing.{CanExist}
 use Rattle.model.proofs.Explicit.{place_step, turn_at}
 use Rattle.model.proofs.Begins.{accepted_idle}
 use Rattle.model.proofs.Accepted.{turn_passed, walk_turn_passed}
 use Rattle.model.proofs.Stays.{Frame, Stands, turn_frame}
-use Rattle.model.proofs.Kept.{Kept, moves_keep, existing_kept}
+use Rattle.model.proofs.Logs.{ends_not_now, ends_not_later}
+use Rattle.model.proofs.Kept.{asked_or_not, Kept, moves_keep, existing_kept}
 use Rattle.model.proofs.Rank.{asks_at, waits}
 use Rattle.model.proofs.RankSteps.{PlaceRank, RunRank, rank_pos, Turned, own_turn}
 use Rattle.model.proofs.RankBeside.{Calm, calm_turn, beside_turn}
 use Rattle.model.proofs.RankCalm.{job_or_none, calm_started, calm_started_walk}
 use Rattle.model.proofs.RankBound.{rank_bounded}
 use Rattle.model.proofs.RefusedTurns.{turn_refusal, walk_turn_refusal}
-use Rattle.model.proofs.TurnSteps.{asks_nodes_at, asks_parties_at, no_nodes_asked, no_parties_asked, span_kept, job_step, calm_step, making_tells}
+use Rattle.model.proofs.TurnSteps.{asks_nodes_at, asks_parties_at, no_nodes_asked, no_parties_asked, job_step, calm_step, making_tells}
 use Rattle.model.proofs.Seekers.{existing_seekers_open}
 
 -- an order's dues are below its span
@@ -41,8 +42,8 @@ module _ {D W A B : Type 0} (X : Setting D W A B) where
 
   alike_steps : (F G : System D W A B) (q : ℕ) (o : Outcome D W) → Steps X F q o G → Alike F G
   alike_steps F G q o T = record {
-    node_span = span_kept X.node_order (asks_nodes (F.store.run q)) F.node_order G.node_order q T.pick T.node_picks;
-    party_span = span_kept X.party_order (asks_parties (F.store.run q)) F.party_order G.party_order q T.pick T.party_picks;
+    node_span = asked_or_not X.node_order X.node_order.horizon (asks_nodes (F.store.run q)) F.node_order G.node_order q T.pick (λ u. u.span_stays) T.node_picks;
+    party_span = asked_or_not X.party_order X.party_order.horizon (asks_parties (F.store.run q)) F.party_order G.party_order q T.pick (λ u. u.span_stays) T.party_picks;
   }
 
   free_now : {F G : System D W A B} {es : Log X} (r : Run X F es G) → AtEachMoment X (SomeFree X) r → SomeFree X F
@@ -156,17 +157,8 @@ module _ {D W A B : Type 0} (X : Setting D W A B) where
     shape : (G : System D W A B) (r : ℕ) (ρ : Running D) → is_idle ρ ≡ false → RunRank X.parties X.nodes S P G.store (X.party_order.due G.party_order) (X.node_order.due G.node_order p) p r ρ
         → (y : Plan D) × ((d : Place) × ((ρ ≡ Works (Makes y) d) × Rank G r d))
     shape G r Idle i h = absurd (true≢false i)
-    shape G r (Reads g) i h = absurd h
-    shape G r (GoesDown k) i h = absurd h
-    shape G r (WalkReads t g) i h = absurd h
-    shape G r (WalkGoesDown t k) i h = absurd h
     shape G r (Works (Makes y) d) i h = (y, (d, (refl, h)))
-    shape G r (Works Sweeps d) i h = absurd h
-    shape G r (Keeps k) i h = absurd h
-    shape G r (Drops k) i h = absurd h
-    shape G r (Fetches k) i h = absurd h
-    shape G r (Hands k q) i h = absurd h
-    shape G r (TakesOut k v) i h = absurd h
+    shape G r _ i h = absurd h
 
     -- p's own turn
     module _ (F G : System D W A B) (c : ℕ) (w : Making F c) (f : Kept X G) (free : SomeFree X G) (o : Outcome D W) (i : is_idle (F.store.run p) ≡ false) (T : Steps X F p o G) where
@@ -230,46 +222,28 @@ module _ {D W A B : Type 0} (X : Setting D W A B) where
         beside (subst (λ H. Making H c) (sym g) w) (and_right (eqb p q) (is_accepted o) (ap is_accepted t ∙ turn_refusal X.parties X.nodes q l (F.store.run q) r h))
     make_move {F} {G} c w free (turn {p = q} {l = l} h T) =
         let u = turn_passed X.parties X.nodes q l (F.store.run q) h in
-        turn_goes c (turns q l) w (moves_keep X w.kept (turn {l = l} h T)) free q refl u.0 u.1 u.2 T
+        turn_goes c (Turns q l) w (moves_keep X w.kept (turn {l = l} h T)) free q refl u.0 u.1 u.2 T
     make_move {F} {G} c {o = o} w free (walk_turn_refused {p = q} {l = l} r h t g) =
         beside (subst (λ H. Making H c) (sym g) w) (and_right (eqb p q) (is_accepted o) (ap is_accepted t ∙ walk_turn_refusal X.parties X.nodes q l (F.store.run q) r h))
     make_move {F} {G} c w free (walk_turn {p = q} {l = l} h T) =
         let u = walk_turn_passed X.parties X.nodes q l (F.store.run q) h in
-        turn_goes c (walk_turns q l) w (moves_keep X w.kept (walk_turn {l = l} h T)) free q refl u.0 u.1 u.2 T
+        turn_goes c (WalkTurns q l) w (moves_keep X w.kept (walk_turn {l = l} h T)) free q refl u.0 u.1 u.2 T
 
     -- a whole run
     make_run : {F G : System D W A B} (c : ℕ) {es : Log X} → Making F c → (r : Run X F es G) → AtEachMoment X (SomeFree X) r → ends_of p es ≡ 0 → Making G (turns_of p es + c)
     make_run {F} c w still fed z = subst (Making F) (let u : c ≡ 0 + c = omega arith in u) w
     make_run {G = H} c w (more {G = G} {e = e} {o = o} {es = es} m r) fed z =
-        came (make_move c w (free_now r fed.1) m) (λ c' w'. make_run c' w' r fed.1 (zero_rest (is_turn_of p e && is_end o) (ends_of p es) z))
+        came (make_move c w (free_now r fed.1) m) (λ c' w'. make_run c' w' r fed.1 (ends_not_later e o es p z))
       where
-        zero_rest : (b : Bool) (n : ℕ) → cond b 1 0 + n ≡ 0 → n ≡ 0
-        zero_rest true n h = absurd (omega arith)
-        zero_rest false n h = omega arith
-
-        zero_not : (b : Bool) (n : ℕ) → cond b 1 0 + n ≡ 0 → b ≡ false
-        zero_not true n h = absurd (omega arith)
-        zero_not false n h = refl
-
         came : Goes G c e o → ((c' : ℕ) → Making G c' → Making H (turns_of p es + c')) → Making H (turns_of p ((e, o) ∷ es) + c)
         came (beside w' k) go = subst (Making H) ((let u : turns_of p es + c ≡ 0 + turns_of p es + c = omega arith in u) ∙ ap (λ n. n + turns_of p es + c) (sym (cond-false (counts e o) 1 0 k))) (go c w')
         came (onward w' k) go = subst (Making H) ((let u : turns_of p es + suc c ≡ 1 + turns_of p es + c = omega arith in u) ∙ ap (λ n. n + turns_of p es + c) (sym (cond-true (counts e o) 1 0 k))) (go (suc c) w')
-        came (over k) go = absurd (true≢false (sym k ∙ zero_not (is_turn_of p e && is_end o) (ends_of p es) z))
+        came (over k) go = absurd (true≢false (sym k ∙ ends_not_now e o es p z))
 
 -- a Make is under way
 is_making_lem : {D : Type 0} (r : Running D) → is_making r ≡ true → (plan : Plan D) × ((c : Place) × (r ≡ Works (Makes plan) c))
-is_making_lem Idle h = absurd (true≢false (sym h))
-is_making_lem (Reads g) h = absurd (true≢false (sym h))
-is_making_lem (GoesDown k) h = absurd (true≢false (sym h))
-is_making_lem (WalkReads t g) h = absurd (true≢false (sym h))
-is_making_lem (WalkGoesDown t k) h = absurd (true≢false (sym h))
 is_making_lem (Works (Makes plan) c) h = (plan, (c, refl))
-is_making_lem (Works Sweeps c) h = absurd (true≢false (sym h))
-is_making_lem (Keeps i) h = absurd (true≢false (sym h))
-is_making_lem (Drops i) h = absurd (true≢false (sym h))
-is_making_lem (Fetches i) h = absurd (true≢false (sym h))
-is_making_lem (Hands i q) h = absurd (true≢false (sym h))
-is_making_lem (TakesOut i v) h = absurd (true≢false (sym h))
+is_making_lem _ h = absurd (true≢false (sym h))
 
 -- so many accepted turns end a Make, from any moment of it
 pub makes_end : {D W A B : Type 0} (X : Setting D W A B) → DuesBelowSpan X.node_order → DuesBelowSpan X.party_order

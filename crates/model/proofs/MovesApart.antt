@@ -1,8 +1,8 @@
 -- What any Begin or Turn of another party leaves to a party.
 use Rattle.std.proofs.Common.{◌≡◌, ℕ, ◌≢◌, sym, refl, subst}
-use Rattle.model.specs.Types.{Outcome}
+use Rattle.model.specs.Types.{Event, Outcome}
 use Rattle.model.specs.Setting.{Setting}
-use Rattle.model.specs.Runs.{System, Event, Moves, begin_refused, call_begun, walk_begun, turn_refused, turn, walk_turn_refused, walk_turn}
+use Rattle.model.specs.Runs.{System, Moves, begin_refused, call_begun, walk_begun, turn_refused, turn, walk_turn_refused, walk_turn}
 use Rattle.model.proofs.Accepted.{turn_passed, walk_turn_passed}
 use Rattle.model.proofs.Kept.{Kept}
 use Rattle.model.proofs.FitsAlways.{step_is}

@@ -5,30 +5,29 @@ use Rattle.model.specs.Types.{Kid, First, Second, Third, Closed, Idle}
 use Rattle.model.specs.State.{kid_at, empty_kids, new_store}
 use Rattle.model.specs.Inv.{none, tray_node, occ, carry, in_slots, in_boxes, in_trays, carried, in_kids, Good, Inv}
 use Rattle.model.specs.Sound.{Sound}
-use Rattle.model.proofs.Sums.{is_other}
+use Rattle.model.proofs.Sums.{is_other, sum_to_none}
 use Rattle.model.proofs.Make.{carry_is}
-use Rattle.model.proofs.Reached.{zeros}
 
 module _ (D : Type 0) (N M : ℕ) where
   no_slots : (n : ℕ) → 1 ≤ n → in_slots N (new_store {D = D}).slot n ≡ 0
   unfolding in_slots
-  no_slots n h = zeros N (λ q. sum_to 8 (λ i. is 0 n)) (λ q a b. zeros 8 (λ i. is 0 n) (λ i c d. is_other 0 n (omega arith)))
+  no_slots n h = sum_to_none N (λ q. sum_to 8 (λ i. is 0 n)) (λ q a b. sum_to_none 8 (λ i. is 0 n) (λ i c d. is_other 0 n (omega arith)))
 
   no_boxes : (n : ℕ) → 1 ≤ n → in_boxes N (new_store {D = D}).inbox n ≡ 0
   unfolding in_boxes
-  no_boxes n h = zeros N (λ q. is 0 n) (λ q a b. is_other 0 n (omega arith))
+  no_boxes n h = sum_to_none N (λ q. is 0 n) (λ q a b. is_other 0 n (omega arith))
 
   no_trays : (n : ℕ) → 1 ≤ n → in_trays N (new_store {D = D}).tray n ≡ 0
   unfolding in_trays
-  no_trays n h = zeros N (λ q. is (tray_node Closed) n) (λ q a b. is_other 0 n (omega arith))
+  no_trays n h = sum_to_none N (λ q. is (tray_node Closed) n) (λ q a b. is_other 0 n (omega arith))
 
   no_carriers : (n : ℕ) → 1 ≤ n → carried N (new_store {D = D}).run n ≡ 0
   unfolding carried
-  no_carriers n h = zeros N (λ q. carry none n) (λ q a b. carry_is none n ∙ (let z = is_other 0 n (omega arith) in omega arith))
+  no_carriers n h = sum_to_none N (λ q. carry none n) (λ q a b. carry_is none n ∙ (let z = is_other 0 n (omega arith) in omega arith))
 
   no_kids_named : (n : ℕ) → 1 ≤ n → in_kids M (new_store {D = D}).kids n ≡ 0
   unfolding in_kids occ
-  no_kids_named n h = zeros M (λ m. is 0 n + is 0 n + is 0 n) (λ m a b. let z = is_other 0 n (omega arith) in omega arith)
+  no_kids_named n h = sum_to_none M (λ m. is 0 n + is 0 n + is 0 n) (λ m a b. let z = is_other 0 n (omega arith) in omega arith)
 
   idle_good : (q : ℕ) → Good N M (new_store {D = D}) q Idle
   idle_good q = (

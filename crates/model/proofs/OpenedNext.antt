@@ -1,10 +1,10 @@
 -- What follows from a store and a plain store that are opened, and when they are so again after a Begin or Turn.
 use Rattle.std.proofs.Common.{◌≡◌, ℕ, ◌≤◌, true, false, List, ◌++◌, sym, refl, ap, ◌∙◌, subst}
-use Rattle.model.specs.Types.{Place, Plan, Makes, Works, Make, Asked, AsksCall, Outcome}
+use Rattle.model.specs.Types.{Event, Place, Plan, Makes, Works, Make, Asked, AsksCall, Outcome}
 use Rattle.model.specs.Checks.{begin_fault, given_by}
 use Rattle.model.specs.Setting.{Setting}
-use Rattle.model.specs.Plain.{Plain, Ask, Happens, enters, goes_up, leaves, reads, goes_down, no_kid_there, keeps, drops, hands, inbox_full, fetches, inbox_empty, makes, sweeps_nothing, sweeps, walks, Takes, accepted, PlainRun, ends, next}
-use Rattle.model.specs.Runs.{System, Event, Moves, is_end}
+use Rattle.model.specs.Plain.{Plain, Ask, Happens, enters, Takes, accepted, PlainRun, ends, next}
+use Rattle.model.specs.Runs.{System, Moves, is_end}
 use Rattle.model.specs.Opened.{Agrees, WrittenSoFar, AskedFor, Underway, Opened}
 use Rattle.model.proofs.Begins.{make_passed, accepted as passed}
 use Rattle.model.proofs.Fitting.{Fits, fits_moves}
@@ -16,21 +16,7 @@ module _ {D W A B : Type 0} (X : Setting D W A B) where
   -- what happens ends a call
   pub happens_ends : {t : Plain D} {p : ℕ} {c : Asked D} {o : Outcome D W} {u : Plain D} → Happens X t p c o u → is_end o ≡ true
   happens_ends enters = refl
-  happens_ends goes_up = refl
-  happens_ends leaves = refl
-  happens_ends reads = refl
-  happens_ends (goes_down e z) = refl
-  happens_ends (no_kid_there z) = refl
-  happens_ends keeps = refl
-  happens_ends drops = refl
-  happens_ends (hands z) = refl
-  happens_ends (inbox_full z) = refl
-  happens_ends (fetches z) = refl
-  happens_ends (inbox_empty z) = refl
-  happens_ends (makes v z) = refl
-  happens_ends sweeps_nothing = refl
-  happens_ends (sweeps v q y z) = refl
-  happens_ends (walks d y z) = refl
+  happens_ends _ = refl
 
   -- what was asked for happens
   pub takes : (t u : Plain D) (p : ℕ) (k : Ask D) (c : Asked D) (o : Outcome D W) → AskedFor X t p k c → Happens X t p c o u → Takes X t k o u

@@ -1,57 +1,42 @@
 -- A call that is neither Make nor walk, along a run: each turn of its own leaves fewer to it, and nobody else's changes it.
-use Rattle.std.proofs.Common.{◌≡◌, ℕ, ◌+◌, ◌<◌, ◌≤◌, Bool, true, false, cond, ◌&&◌, eqb, ◌≢◌, ◌⊎◌, List, ◌∷◌, sym, refl, ap, ◌∙◌, subst, inl, inr, arith}
-use Rattle.std.proofs.lemmas.Bool.{cases_eq, cond_both, eq-eqb, ne_eqb, true≢false}
-use Rattle.model.specs.Types.{Running, Idle, Reads, GoesDown, Keeps, Drops, Hands, Fetches, TakesOut, Works, WalkReads, WalkGoesDown, AsksCall, AsksWalk, Outcome, Told, Tells, Settles, Decision}
+use Rattle.std.proofs.Common.{◌≡◌, ℕ, ◌<◌, ◌≤◌, true, false, eqb, ◌⊎◌, ◌∷◌, sym, refl, ap, ◌∙◌, subst, inl, inr, arith}
+use Rattle.std.proofs.lemmas.Bool.{cases_eq, eq-eqb, ne_eqb, and_from, true≢false}
+use Rattle.model.specs.Types.{Event, Turns, Running, Idle, WalkReads, WalkGoesDown, AsksCall, AsksWalk, Outcome, Told, Tells, Settles, Decision}
 use Rattle.model.specs.State.{last}
 use Rattle.model.specs.Steps.{loaded, looks_at, decision}
 use Rattle.model.specs.Checks.{is_walking}
 use Rattle.model.specs.Setting.{Setting}
-use Rattle.model.specs.Runs.{System, Event, turns, Moves, begin_refused, call_begun, walk_begun, turn_refused, turn, walk_turn_refused, walk_turn, Steps, Log, Run, still, more, moved_as, is_accepted, is_end, is_turn_of, turns_of, ends_of}
+use Rattle.model.specs.Runs.{System, Moves, begin_refused, call_begun, walk_begun, turn_refused, turn, walk_turn_refused, walk_turn, Steps, Log, Run, still, more, moved_as, is_accepted, is_end, is_turn_of, turns_of, ends_of}
 use Rattle.model.specs.Law.{is_brief, OtherCallsEnd}
 use Rattle.model.proofs.Accepted.{walk_turn_walks}
 use Rattle.model.proofs.Begins.{accepted_idle}
 use Rattle.model.proofs.RefusedTurns.{turn_refusal, walk_turn_refusal}
 use Rattle.model.proofs.BriefCalls.{left, EndsBy, nearer, some_left}
+use Rattle.model.proofs.Logs.{ends_not_now, ends_not_later, counts_one, counts_none}
 use Rattle.model.proofs.Kept.{Kept, moves_keep}
 use Rattle.model.proofs.Others.{stepped_own, others_run_on}
 use Rattle.model.proofs.Stepped.{fit_of}
 use Rattle.model.proofs.Tells.{TellsAtOnce, IsFourth, tells_at_once}
 
 brief_not_fourth : {D : Type 0} (r : Running D) → is_brief r ≡ true → IsFourth r → ⊥
-brief_not_fourth Idle h f = f
-brief_not_fourth (Reads g) h f = f
-brief_not_fourth (GoesDown k) h f = f
-brief_not_fourth (Keeps i) h f = f
-brief_not_fourth (Drops i) h f = f
-brief_not_fourth (Hands i q) h f = f
-brief_not_fourth (Fetches i) h f = f
-brief_not_fourth (TakesOut i v) h f = f
-brief_not_fourth (Works j c) h f = f
 brief_not_fourth (WalkReads t g) h f = true≢false (sym h)
-brief_not_fourth (WalkGoesDown t k) h f = f
+brief_not_fourth _ h f = f
 
 brief_not_walking : {D : Type 0} (r : Running D) → is_brief r ≡ true → is_walking r ≡ true → ⊥
 brief_not_walking Idle h w = true≢false (sym h)
-brief_not_walking (Reads g) h w = true≢false (sym w)
-brief_not_walking (GoesDown k) h w = true≢false (sym w)
-brief_not_walking (Keeps i) h w = true≢false (sym w)
-brief_not_walking (Drops i) h w = true≢false (sym w)
-brief_not_walking (Hands i q) h w = true≢false (sym w)
-brief_not_walking (Fetches i) h w = true≢false (sym w)
-brief_not_walking (TakesOut i v) h w = true≢false (sym w)
-brief_not_walking (Works j c) h w = true≢false (sym w)
 brief_not_walking (WalkReads t g) h w = true≢false (sym h)
 brief_not_walking (WalkGoesDown t k) h w = true≢false (sym h)
+brief_not_walking _ h w = true≢false (sym w)
 
 module _ {D W A B : Type 0} (X : Setting D W A B) where
   module _ (F : System D W A B) (p x : ℕ) (d : Decision D W) where
     runs_next : (T : Told D W) → TellsAtOnce T → (moved_as X F p x d T).store.run p ≡ d.next
     runs_next (Tells o) h = stepped_own X.parties X.nodes F.store F.info p x d
-    runs_next (Settles t e ks) h = absurd h
+    runs_next (Settles n) h = absurd h
 
     ends_by : (T : Told D W) → EndsBy T → is_end (moved_as X F p x d T).outcome ≡ true
     ends_by (Tells o) h = h
-    ends_by (Settles t e ks) h = absurd h
+    ends_by (Settles n) h = absurd h
 
   -- an own turn ends the call, or leaves fewer to it
   own_turn : (F G : System D W A B) (p : ℕ) (o : Outcome D W) → Kept X F → 1 ≤ p → p ≤ X.parties → is_brief (F.store.run p) ≡ true → Steps X F p o G
@@ -66,29 +51,6 @@ module _ {D W A B : Type 0} (X : Setting D W A B) where
         | inr g ↦ inr (ap is_brief is ∙ g.0, omega (arith, ap left is, g.1))
       ]
 
-  -- what stands at the head of a log counts for the party or not
-  counts_one : (e : Event D) (o : Outcome D W) (es : List (Event D × Outcome D W)) (p : ℕ) → turns_of p ((e, o) ∷ es) ≤ 1 + turns_of p es
-  counts_one e o es p = cond_both (is_turn_of p e && is_accepted o) 1 0 (λ n. n + turns_of p es ≤ 1 + turns_of p es) (λ _. omega arith) (λ _. omega arith)
-
-  counts_none : (e : Event D) (o : Outcome D W) (es : List (Event D × Outcome D W)) (p : ℕ) → (is_turn_of p e ≡ false) ⊎ (is_accepted o ≡ false) → turns_of p ((e, o) ∷ es) ≡ turns_of p es
-  counts_none e o es p (inl h) = ap (λ b. cond (b && is_accepted o) 1 0 + turns_of p es) h ∙ omega arith
-  counts_none e o es p (inr h) = go (is_turn_of p e) h
-    where
-      go : (b : Bool) → is_accepted o ≡ false → cond (b && is_accepted o) 1 0 + turns_of p es ≡ turns_of p es
-      go true h = ap (λ c. cond c 1 0 + turns_of p es) h ∙ omega arith
-      go false h = omega arith
-
-  ends_later : (e : Event D) (o : Outcome D W) (es : List (Event D × Outcome D W)) (p : ℕ) → ends_of p ((e, o) ∷ es) ≡ 0 → ends_of p es ≡ 0
-  ends_later e o es p h = cond_both (is_turn_of p e && is_end o) 1 0 (λ n. n + ends_of p es ≡ 0 → ends_of p es ≡ 0) (λ _ z. omega arith) (λ _ z. omega arith) h
-
-  ends_here : (e : Event D) (o : Outcome D W) (es : List (Event D × Outcome D W)) (p : ℕ) → is_turn_of p e ≡ true → is_end o ≡ true → ends_of p ((e, o) ∷ es) ≡ 0 → ⊥
-  ends_here e o es p t h z =
-      let u : cond (is_turn_of p e && is_end o) 1 0 ≡ 1 = ap {B = ℕ} (λ b. cond (b && is_end o) 1 0) t ∙ ap {B = ℕ} (λ b. cond b 1 0) h in
-      omega (arith, u, z)
-
-  not_his : (p q : ℕ) → q ≢ p → eqb p q ≡ false
-  not_his p q d = ne_eqb p q (λ e. d (sym e))
-
   module _ (p : ℕ) (a : 1 ≤ p) (b : p ≤ X.parties) where
     -- what holds of the rest of a run
     abbrev Rest : System D W A B → Log X → Type 0
@@ -98,7 +60,7 @@ module _ {D W A B : Type 0} (X : Setting D W A B) where
     goes_on : {F G : System D W A B} {e : Event D} {o : Outcome D W} (es : Log X) → Kept X F → is_brief (F.store.run p) ≡ true → Moves X F e o G → Rest G es → ends_of p ((e, o) ∷ es) ≡ 0
         → G.store.run p ≡ F.store.run p → (is_turn_of p e ≡ false) ⊎ (is_accepted o ≡ false) → turns_of p ((e, o) ∷ es) < left (F.store.run p)
     goes_on {F} {G} {e} {o} es K h m r z same none =
-        let rest = r (moves_keep X K m) (ap is_brief same ∙ h) (ends_later e o es p z) in
+        let rest = r (moves_keep X K m) (ap is_brief same ∙ h) (ends_not_later e o es p z) in
         omega (arith, rest, ap left same, counts_none e o es p none)
 
     -- one Begin or Turn
@@ -114,20 +76,20 @@ module _ {D W A B : Type 0} (X : Setting D W A B) where
       | inr d ↦ goes_on es K h (walk_begun {l = l} t worths f i o' g) r z (others_run_on X p (walk_begun {l = l} t worths f i o' g) d) (inl refl)
     ]
     head {F} es K h (turn_refused {p = q} {l} r' f t g) r z = goes_on es K h (turn_refused {p = q} {l = l} r' f t g) r z (ap (λ S. S.store.run p) g) (inr (ap is_accepted t ∙ turn_refusal X.parties X.nodes q l (F.store.run q) r' f))
-    head {F} {G} {e} {o} es K h (turn {p = q} {l} f m) r z = elim (cases_eq q p) [
+    head {F} {G} {e} {o} es K h (turn {p = q} {l} f m) r z = elim (cases_eq p q) [
       | inl is ↦
-          (let m' : Steps X F p o G = subst (λ v. Steps X F v o G) is m in
-          let his : eqb p q ≡ true = eq-eqb p q (sym is) in
+          (let m' : Steps X F p o G = subst (λ v. Steps X F v o G) (sym is) m in
+          let his : eqb p q ≡ true = eq-eqb p q is in
           elim (own_turn F G p o K a b h m') [
-            | inl end ↦ absurd (ends_here (turns q l) o es p his end z)
-            | inr on ↦ (let rest = r (moves_keep X K (turn {p = q} {l = l} f m)) on.0 (ends_later (turns q l) o es p z) in omega (arith, rest, on.1, counts_one (turns q l) o es p))
+            | inl end ↦ absurd (true≢false (sym (and_from (eqb p q) (is_end o) his end) ∙ ends_not_now (Turns q l) o es p z))
+            | inr on ↦ (let rest = r (moves_keep X K (turn {p = q} {l = l} f m)) on.0 (ends_not_later (Turns q l) o es p z) in omega (arith, rest, on.1, counts_one (Turns q l) o es p))
           ])
-      | inr d ↦ goes_on es K h (turn {p = q} {l = l} f m) r z (others_run_on X p (turn {p = q} {l = l} f m) (λ e. d (sym e))) (inl (not_his p q d))
+      | inr d ↦ goes_on es K h (turn {p = q} {l = l} f m) r z (others_run_on X p (turn {p = q} {l = l} f m) d) (inl (ne_eqb p q d))
     ]
     head {F} es K h (walk_turn_refused {p = q} {l} r' f t g) r z = goes_on es K h (walk_turn_refused {p = q} {l = l} r' f t g) r z (ap (λ S. S.store.run p) g) (inr (ap is_accepted t ∙ walk_turn_refusal X.parties X.nodes q l (F.store.run q) r' f))
-    head {F} es K h (walk_turn {p = q} {l} f m) r z = elim (cases_eq q p) [
-      | inl is ↦ absurd (brief_not_walking (F.store.run p) h (ap (λ v. is_walking (F.store.run v)) (sym is) ∙ walk_turn_walks X.parties X.nodes q l (F.store.run q) f))
-      | inr d ↦ goes_on es K h (walk_turn {p = q} {l = l} f m) r z (others_run_on X p (walk_turn {p = q} {l = l} f m) (λ e. d (sym e))) (inl (not_his p q d))
+    head {F} es K h (walk_turn {p = q} {l} f m) r z = elim (cases_eq p q) [
+      | inl is ↦ absurd (brief_not_walking (F.store.run p) h (ap (λ v. is_walking (F.store.run v)) is ∙ walk_turn_walks X.parties X.nodes q l (F.store.run q) f))
+      | inr d ↦ goes_on es K h (walk_turn {p = q} {l = l} f m) r z (others_run_on X p (walk_turn {p = q} {l = l} f m) d) (inl (ne_eqb p q d))
     ]
 
     brief_run : {F H : System D W A B} {es : Log X} → Kept X F → is_brief (F.store.run p) ≡ true → Run X F es H → ends_of p es ≡ 0 → turns_of p es < left (F.store.run p)

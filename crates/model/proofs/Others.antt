@@ -1,60 +1,32 @@
 -- What a Begin or a Turn of one party leaves alone: the other parties' running calls.
 use Rattle.std.proofs.Common.{◌≡◌, ℕ, ◌≢◌, Some, None, Option, refl, ap, ◌∙◌}
-use Rattle.model.specs.Types.{Kid, ReadNothing, WalkReads, WalkGoesDown, Call, Enter, Up, Leave, Read, Down, Keep, Drop, Hand, Fetch, Make, Sweep, Situation, Outcome, Address, Nowhere, CountOf, LockOf, KidOf, DataOf, InboxOf, TrayOf, Word, NoWord, CountWord, LockWord, KidWord, DataWord, InboxWord, TrayWord, Change, Stays, Fills, Lengthens, Told, Tells, Settles, Decision}
+use Rattle.model.specs.Types.{Event, Begins, Turns, WalkTurns, Kid, ReadNothing, WalkReads, WalkGoesDown, Call, Enter, Up, Leave, Situation, Outcome, Address, Nowhere, DataOf, Word, NoWord, CountWord, LockWord, KidWord, DataWord, InboxWord, TrayWord, Change, Stays, Fills, Lengthens, Told, Tells, Settles, Decision}
 use Rattle.model.specs.State.{shorter, Store, set_run}
 use Rattle.model.specs.Steps.{written, changed, stepped, looks_at, decision}
 use Rattle.model.specs.Begins.{started}
 use Rattle.model.specs.Walks.{resumes, gone_up, first_unmarked}
 use Rattle.model.specs.Setting.{Setting}
-use Rattle.model.specs.Runs.{System, Event, begins, turns, walk_turns, Moves, begin_refused, call_begun, walk_begun, turn_refused, turn, walk_turn_refused, walk_turn, Steps, moved_as}
+use Rattle.model.specs.Runs.{System, Moves, begin_refused, call_begun, walk_begun, turn_refused, turn, walk_turn_refused, walk_turn, Steps, moved_as}
 use Rattle.model.proofs.Sums.{upd_same, upd_other}
 
 -- whose Begin or Turn it is
 abbrev pub party_of : {D : Type 0} → Event D → ℕ
-party_of (begins p a l) = p
-party_of (turns p l) = p
-party_of (walk_turns p l) = p
+party_of (Begins p a l) = p
+party_of (Turns p l) = p
+party_of (WalkTurns p l) = p
 
 module _ {D : Type 0} where
   -- writing a word, a slot or a trail runs nothing
   written_runs : (s : Store D) (a : Address) (w : Word D) → (written s a w).run ≡ s.run
   written_runs s Nowhere w = refl
-  written_runs s (CountOf n) NoWord = refl
-  written_runs s (CountOf n) (CountWord v) = refl
-  written_runs s (CountOf n) (LockWord v) = refl
-  written_runs s (CountOf n) (KidWord v) = refl
-  written_runs s (CountOf n) (DataWord v) = refl
-  written_runs s (CountOf n) (InboxWord v) = refl
-  written_runs s (CountOf n) (TrayWord v) = refl
-  written_runs s (LockOf n) NoWord = refl
-  written_runs s (LockOf n) (CountWord v) = refl
-  written_runs s (LockOf n) (LockWord v) = refl
-  written_runs s (LockOf n) (KidWord v) = refl
-  written_runs s (LockOf n) (DataWord v) = refl
-  written_runs s (LockOf n) (InboxWord v) = refl
-  written_runs s (LockOf n) (TrayWord v) = refl
-  written_runs s (KidOf n k) NoWord = refl
-  written_runs s (KidOf n k) (CountWord v) = refl
-  written_runs s (KidOf n k) (LockWord v) = refl
-  written_runs s (KidOf n k) (KidWord v) = refl
-  written_runs s (KidOf n k) (DataWord v) = refl
-  written_runs s (KidOf n k) (InboxWord v) = refl
-  written_runs s (KidOf n k) (TrayWord v) = refl
   written_runs s (DataOf n) w = refl
-  written_runs s (InboxOf q) NoWord = refl
-  written_runs s (InboxOf q) (CountWord v) = refl
-  written_runs s (InboxOf q) (LockWord v) = refl
-  written_runs s (InboxOf q) (KidWord v) = refl
-  written_runs s (InboxOf q) (DataWord v) = refl
-  written_runs s (InboxOf q) (InboxWord v) = refl
-  written_runs s (InboxOf q) (TrayWord v) = refl
-  written_runs s (TrayOf q) NoWord = refl
-  written_runs s (TrayOf q) (CountWord v) = refl
-  written_runs s (TrayOf q) (LockWord v) = refl
-  written_runs s (TrayOf q) (KidWord v) = refl
-  written_runs s (TrayOf q) (DataWord v) = refl
-  written_runs s (TrayOf q) (InboxWord v) = refl
-  written_runs s (TrayOf q) (TrayWord v) = refl
+  written_runs s _ NoWord = refl
+  written_runs s _ (CountWord v) = refl
+  written_runs s _ (LockWord v) = refl
+  written_runs s _ (KidWord v) = refl
+  written_runs s _ (DataWord v) = refl
+  written_runs s _ (InboxWord v) = refl
+  written_runs s _ (TrayWord v) = refl
 
   changed_runs : (s : Store D) (p : ℕ) (c : Change) → (changed s p c).run ≡ s.run
   changed_runs s p Stays = refl
@@ -65,14 +37,7 @@ module _ {D : Type 0} where
   started_others (Enter i) s p q d = refl
   started_others Up s p q d = refl
   started_others Leave s p q d = refl
-  started_others Read s p q d = upd_other s.run p q _ d
-  started_others (Down k) s p q d = upd_other s.run p q _ d
-  started_others (Keep i) s p q d = upd_other s.run p q _ d
-  started_others (Drop i) s p q d = upd_other s.run p q _ d
-  started_others (Hand i r) s p q d = upd_other s.run p q _ d
-  started_others (Fetch i) s p q d = upd_other s.run p q _ d
-  started_others (Make plan) s p q d = upd_other s.run p q _ d
-  started_others Sweep s p q d = upd_other s.run p q _ d
+  started_others _ s p q d = upd_other s.run p q _ d
 
 module _ {D W : Type 0} (N M : ℕ) (s : Store D) (info : ℕ → D) (p x : ℕ) (d : Decision D W) where
   -- what the party runs after its step, and that the others run what they ran
@@ -95,7 +60,7 @@ module _ {D W A B : Type 0} (X : Setting D W A B) where
   -- a Turn of p leaves what another runs
   moved_others : (F : System D W A B) (p x q : ℕ) (d : Decision D W) (T : Told D W) → q ≢ p → (moved_as X F p x d T).store.run q ≡ F.store.run q
   moved_others F p x q d (Tells o) ne = stepped_others X.parties X.nodes F.store F.info p x d q ne
-  moved_others F p x q d (Settles t e ks) ne = settled_by_lem (first_unmarked (F.notes p) ks) F.store p t q ne
+  moved_others F p x q d (Settles n) ne = settled_by_lem (first_unmarked (F.notes p) n.kids) F.store p n.situation q ne
 
   steps_others : (F G : System D W A B) (p q : ℕ) (o : Outcome D W) → Steps X F p o G → q ≢ p → G.store.run q ≡ F.store.run q
   steps_others F G p q o m ne =

@@ -3,7 +3,7 @@ use Rattle.std.proofs.Common.{◌≡◌, ℕ, ◌+◌, ◌-◌, ◌≤◌, Bool,
 use Rattle.std.proofs.lemmas.Bool.{cases_eq, eqb-true, cond-false}
 use Rattle.refusals.specs.declared.Refusal.TheVariants.{InboxEmpty}
 use Rattle.model.specs.Fun.{upd}
-use Rattle.model.specs.Types.{Place, Job, Makes, Sweeps, ReadNothing, ReadData, ReadFirst, ReadSecond, Running, Idle, Reads, GoesDown, Keeps, Drops, Hands, Fetches, TakesOut, Works, WalkReads, WalkGoesDown, Read, Down, Keep, Drop, Hand, Fetch, Asked, AsksCall, Outcome, Refused, StillRunning}
+use Rattle.model.specs.Types.{Ok, Err, Place, Job, Makes, Sweeps, ReadNothing, ReadData, ReadFirst, ReadSecond, Running, Idle, Reads, GoesDown, Keeps, Drops, Hands, Fetches, TakesOut, Works, WalkReads, WalkGoesDown, Read, Down, Keep, Drop, Hand, Fetch, Asked, AsksCall, Outcome, StillRunning}
 use Rattle.model.specs.State.{kid_at, no_trail, Store, set_inbox, set_slot, set_run, last}
 use Rattle.model.specs.Checks.{is_idle, is_walking}
 use Rattle.model.specs.Begins.{kid_of}
@@ -26,7 +26,7 @@ use Rattle.model.proofs.FollowMake.{call_of, Wrote, by_bool, place_deed, goes_on
 module _ {D W A B : Type 0} (X : Setting D W A B) where
   -- p's own turn, with which the system G is left and o is told; walks says whether p walks then
   pub data Own (walks : Bool) (G : System D W A B) (t : Plain D) (p : ℕ) (k : Ask D) (o : Outcome D W) : Type 0 where
-    goes : o ≡ StillRunning → is_walking (G.store.run p) ≡ walks → Agrees X G t → Underway X G t p k (G.store.run p) → Own walks G t p k o
+    goes : o ≡ Ok StillRunning → is_walking (G.store.run p) ≡ walks → Agrees X G t → Underway X G t p k (G.store.run p) → Own walks G t p k o
     ends : G.store.run p ≡ Idle → (c : Asked D) → AskedFor X t p k c → (u : Plain D) → Happens X t p c o u → Agrees X G u → Own walks G t p k o
 
   module _ (F : System D W A B) (t : Plain D) (S : Agrees X F t) (U : Sound X.parties X.nodes F.store) (p : ℕ) (a : 1 ≤ p) (b : p ≤ X.parties) (k : Ask D) where
@@ -46,7 +46,7 @@ module _ {D W A B : Type 0} (X : Setting D W A B) where
         ])
         (λ n _. (refl, refl))
 
-    steps : (r : Running D) → is_walking (F.store.run p) ≡ false → is_walking r ≡ false → Underway X (leaves (set_run F.store p r)) t p k r → Own false (leaves (set_run F.store p r)) t p k StillRunning
+    steps : (r : Running D) → is_walking (F.store.run p) ≡ false → is_walking r ≡ false → Underway X (leaves (set_run F.store p r)) t p k r → Own false (leaves (set_run F.store p r)) t p k (Ok StillRunning)
     steps r w v h = goes refl (ap is_walking (upd_same F.store.run p r) ∙ v) (agrees_run r w v) (subst (Underway X (leaves (set_run F.store p r)) t p k) (sym (upd_same F.store.run p r)) h)
 
     job_underway : (G : System D W A B) (j : Job D) (d : Place) → AskedFor X t p k (AsksCall (call_of j)) → Wrote G.info j d → Underway X G t p k (Works j d)
@@ -104,7 +104,7 @@ module _ {D W A B : Type 0} (X : Setting D W A B) where
         let u = follow_drop X F t S U p a b (ap is_walking e) j (F.store.count (F.store.slot p j) - 1) in
         ends (idle_here F.store) (AsksCall (Drop j)) h u.0 u.1 u.2
     own_turn x (Fetches j) e w i pk h =
-        by_bool (eqb (F.store.inbox p) 0) (λ v. Own false (leaves (cond v (set_run F.store p Idle) (set_run F.store p (TakesOut j (F.store.inbox p))))) t p k (cond v (Refused InboxEmpty) StillRunning))
+        by_bool (eqb (F.store.inbox p) 0) (λ v. Own false (leaves (cond v (set_run F.store p Idle) (set_run F.store p (TakesOut j (F.store.inbox p))))) t p k (cond v (Err InboxEmpty) (Ok StillRunning)))
         (λ z. (let u = follow_no_fetch X F t S U p a b (ap is_walking e) j (eqb-true (F.store.inbox p) 0 z) in ends (idle_here F.store) (AsksCall (Fetch j)) h u.0 u.1 u.2))
         (λ z. steps (TakesOut j (F.store.inbox p)) (ap is_walking e) refl h)
     own_turn x (Hands j q) e w i pk h =
@@ -124,16 +124,10 @@ module _ {D W A B : Type 0} (X : Setting D W A B) where
   underway_along : (H G : System D W A B) (t : Plain D) (p : ℕ) (k : Ask D) → H.store ≡ G.store → H.info ≡ G.info → (r : Running D) → is_walking r ≡ false → Underway X H t p k r → Underway X G t p k r
   underway_along H G t p k e d Idle w h = tt
   underway_along H G t p k e d (Reads g) w h = (h.0, subst (λ s. ReadSoFar (G.info (last s p)) (s.kids (last s p)) g) e (subst (λ f. ReadSoFar (f (last H.store p)) (H.store.kids (last H.store p)) g) d h.1))
-  underway_along H G t p k e d (GoesDown j) w h = h
   underway_along H G t p k e d (WalkReads u g) w h = absurd (true≢false w)
   underway_along H G t p k e d (WalkGoesDown u g) w h = absurd (true≢false w)
   underway_along H G t p k e d (Works (Makes x) c) w h = (h.0, subst (λ f. WrittenSoFar f x c) d h.1)
-  underway_along H G t p k e d (Works Sweeps c) w h = h
-  underway_along H G t p k e d (Keeps i) w h = h
-  underway_along H G t p k e d (Drops i) w h = h
-  underway_along H G t p k e d (Fetches i) w h = h
-  underway_along H G t p k e d (Hands i q) w h = h
-  underway_along H G t p k e d (TakesOut i v) w h = h
+  underway_along H G t p k e d _ w h = h
 
   pub own_along : (H G : System D W A B) (t : Plain D) (p : ℕ) (k : Ask D) (o : Outcome D W) → H.store ≡ G.store → H.info ≡ G.info → Own false H t p k o → Own false G t p k o
   own_along H G t p k o e d (goes eo w S h) =

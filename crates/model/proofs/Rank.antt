@@ -2,31 +2,16 @@
 use Rattle.std.proofs.Common.{◌≡◌, ℕ, zero, suc, ◌+◌, ◌-◌, ◌*◌, ◌<◌, ◌≤◌, cond, eqb, ◌≢◌, ◌⊎◌, sym, refl, ap, ◌∙◌, subst, inl, inr, mul-le-mul_left, arith}
 use Rattle.std.proofs.lemmas.Bool.{cases_eq, cond_both, eq-eqb, ne_eqb, cond-true, cond-false}
 use Rattle.model.specs.Fun.{upd, sum_to}
-use Rattle.model.specs.Types.{Kid, First, Second, Third, Holding, Place, OpenTray, ReadTray, LookForNode, LockNode, Recheck, UnlockAndGoBack, ReadKid, ClearKid, UncountKid, Claim, Unlock, Offer, KeepForOneself, GiveBack, CloseTray, WriteData, CountKid, LinkKid, Plan, Job, Makes, Sweeps, Running, Idle, Reads, GoesDown, Keeps, Drops, Hands, Fetches, TakesOut, Works, WalkReads, WalkGoesDown}
+use Rattle.model.specs.Types.{Kid, First, Second, Third, Holding, Place, ReadTray, LookForNode, LockNode, Recheck, UnlockAndGoBack, ReadKid, ClearKid, UncountKid, Claim, Unlock, Offer, KeepForOneself, GiveBack, CloseTray, WriteData, CountKid, LinkKid, Job, Makes, Sweeps, Running, Idle, Works}
 use Rattle.model.specs.State.{position, kid_at, Store, set_count, set_lock, set_kid, set_tray, set_run}
 use Rattle.model.specs.Steps.{after_kid}
 use Rattle.model.specs.Reach.{Free}
 use Rattle.model.specs.Inv.{reliance, Inv}
-use Rattle.model.proofs.Explicit.{is_open, back, made, give_after, own_tray, place_step, give_first, give_second, give_third}
-use Rattle.model.proofs.Sums.{upd_same, upd_other, sum_to_at}
+use Rattle.model.proofs.Gives.{first_any, after_any}
+use Rattle.model.proofs.Explicit.{is_open, back, own_tray, place_step}
+use Rattle.model.proofs.Sums.{upd_same, upd_other, sum_to_at, sum_le}
 use Rattle.model.proofs.Refs.{slots_at}
 use Rattle.model.proofs.Make.{good}
-
-module _ {D : Type 0} where
-  -- the last steps of a Make write no count and no lock
-  give_third_by : (P : Store D → Type 0) (x : Plan D) (t : Store D) (p v : ℕ) → ((r : Running D) (f : ℕ → ℕ → ℕ) → P (set_run (record { count = t.count; lock = t.lock; kids = t.kids; inbox = t.inbox; tray = t.tray; slot = f; trail = t.trail; run = t.run }) p r)) → P (give_third x t p v)
-  give_third_by P x t p v h = cond_both (eqb x.kids.third 0) (made x t p v) (set_run t p (Works (Makes x) (CountKid v Third))) P (λ _. h Idle (upd t.slot p (upd (t.slot p) x.slot v))) (λ _. h (Works (Makes x) (CountKid v Third)) t.slot)
-
-  give_second_by : (P : Store D → Type 0) (x : Plan D) (t : Store D) (p v : ℕ) → ((r : Running D) (f : ℕ → ℕ → ℕ) → P (set_run (record { count = t.count; lock = t.lock; kids = t.kids; inbox = t.inbox; tray = t.tray; slot = f; trail = t.trail; run = t.run }) p r)) → P (give_second x t p v)
-  give_second_by P x t p v h = cond_both (eqb x.kids.second 0) (give_third x t p v) (set_run t p (Works (Makes x) (CountKid v Second))) P (λ _. give_third_by P x t p v h) (λ _. h (Works (Makes x) (CountKid v Second)) t.slot)
-
-  pub give_first_by : (P : Store D → Type 0) (x : Plan D) (t : Store D) (p v : ℕ) → ((r : Running D) (f : ℕ → ℕ → ℕ) → P (set_run (record { count = t.count; lock = t.lock; kids = t.kids; inbox = t.inbox; tray = t.tray; slot = f; trail = t.trail; run = t.run }) p r)) → P (give_first x t p v)
-  give_first_by P x t p v h = cond_both (eqb x.kids.first 0) (give_second x t p v) (set_run t p (Works (Makes x) (CountKid v First))) P (λ _. give_second_by P x t p v h) (λ _. h (Works (Makes x) (CountKid v First)) t.slot)
-
-  pub after_by : (P : Store D → Type 0) (x : Plan D) (t : Store D) (p v : ℕ) (k : Kid) → ((r : Running D) (f : ℕ → ℕ → ℕ) → P (set_run (record { count = t.count; lock = t.lock; kids = t.kids; inbox = t.inbox; tray = t.tray; slot = f; trail = t.trail; run = t.run }) p r)) → P (give_after x t p v k)
-  after_by P x t p v First h = give_second_by P x t p v h
-  after_by P x t p v Second h = give_third_by P x t p v h
-  after_by P x t p v Third h = h Idle (upd t.slot p (upd (t.slot p) x.slot v))
 
 module _ {D : Type 0} (N M : ℕ) (s : Store D) (I : Inv N M s) (p : ℕ) (a : 1 ≤ p) (b : p ≤ N) (x : ℕ) where
   -- a count of 0 at a node that p has not locked stays 0
@@ -48,20 +33,15 @@ module _ {D : Type 0} (N M : ℕ) (s : Store D) (I : Inv N M s) (p : ℕ) (a : 1
 
     pub zero_stays : (c : Place) (j : Job D) → s.run p ≡ Works j c → (place_step c j s p x).count n ≡ 0
     unfolding StaysZero
-    zero_stays OpenTray j e = z
-    zero_stays ReadTray j e = z
     zero_stays LookForNode j e = cond_both (eqb (s.count x) 0) (set_run s p (Works j (LockNode x))) (set_run s p (back j)) StaysZero (λ _. z) (λ _. z)
     zero_stays (LockNode m) j e = cond_both (eqb (s.lock m) 0) (set_run (set_lock s m p) p (Works j (Recheck m))) (set_run s p (back j)) StaysZero (λ _. z) (λ _. z)
     zero_stays (Recheck m) j e = cond_both (eqb (s.count m) 0) (set_run s p (Works j (ReadKid m First))) (set_run s p (Works j (UnlockAndGoBack m))) StaysZero (λ _. z) (λ _. z)
-    zero_stays (UnlockAndGoBack m) j e = z
     zero_stays (ReadKid m k) j e = cond_both (eqb (kid_at (s.kids m) k) 0) (set_run s p (Works j (after_kid m k))) (set_run s p (Works j (ClearKid m k (kid_at (s.kids m) k)))) StaysZero (λ _. z) (λ _. z)
-    zero_stays (ClearKid m k w) j e = z
     zero_stays (UncountKid m k w) j e = zero_less w
     zero_stays (Claim m) j e =
         let g = good N M s I p a b j (Claim m) e in
         let k : s.lock m ≡ p = g.0.lock_is (let h = g.2.0 in omega arith) in
         zero_off m 1 (λ q. l (ap s.lock q ∙ k))
-    zero_stays (Unlock m) j e = z
     zero_stays (Offer m) (Makes y) e = cond_both (eqb x p) (own_tray (Makes y) s p m) (cond (is_open (s.tray x)) (set_run (set_tray s x (Holding m)) p (back (Makes y))) (set_run s p (Works (Makes y) (KeepForOneself m)))) StaysZero
         (λ _. cond_both (is_open (s.tray p)) (set_run (set_tray s p (Holding m)) p (Works (Makes y) (CloseTray m))) (set_run s p (Works (Makes y) (GiveBack m))) StaysZero (λ _. z) (λ _. z))
         (λ _. cond_both (is_open (s.tray x)) (set_run (set_tray s x (Holding m)) p (back (Makes y))) (set_run s p (Works (Makes y) (KeepForOneself m))) StaysZero (λ _. z) (λ _. z))
@@ -70,9 +50,7 @@ module _ {D : Type 0} (N M : ℕ) (s : Store D) (I : Inv N M s) (p : ℕ) (a : 1
         (λ _. cond_both (is_open (s.tray x)) (set_run (set_tray s x (Holding m)) p Idle) (set_run s p (Works Sweeps (GiveBack m))) StaysZero (λ _. z) (λ _. z))
     zero_stays (KeepForOneself m) j e = cond_both (is_open (s.tray p)) (set_run (set_tray s p (Holding m)) p (Works j (CloseTray m))) (set_run s p (Works j (GiveBack m))) StaysZero (λ _. z) (λ _. z)
     zero_stays (GiveBack m) j e = zero_set m
-    zero_stays (CloseTray v) j e = z
-    zero_stays (WriteData v) (Makes y) e = give_first_by StaysZero y s p v (λ r f. z)
-    zero_stays (WriteData v) Sweeps e = z
+    zero_stays (WriteData v) (Makes y) e = first_any StaysZero y s p v z (λ k. z)
     zero_stays (CountKid v k) (Makes y) e =
         let g = good N M s I p a b (Makes y) (CountKid v k) e in
         let w = s.slot p (kid_at y.kids k) in
@@ -80,56 +58,31 @@ module _ {D : Type 0} (N M : ℕ) (s : Store D) (I : Inv N M s) (p : ℕ) (a : 1
         let wpos : 1 ≤ w = (let u : w ≢ 0 = want.1 in omega arith) in
         let sl = slots_at N M w s.slot p (kid_at y.kids k) a b (let u : kid_at y.kids k ≢ 0 = g.2.1 in omega arith) want.0 refl in
         zero_off w (s.count w + 1) (off_more w (let c = I.counts w wpos in omega arith))
-    zero_stays (CountKid v k) Sweeps e = z
-    zero_stays (LinkKid v k w) (Makes y) e = after_by StaysZero y (set_kid s v k w) p v k (λ r f. z)
-    zero_stays (LinkKid v k w) Sweeps e = z
+    zero_stays (LinkKid v k w) (Makes y) e = after_any StaysZero y (set_kid s v k w) p v z (λ k. z) k
+    zero_stays _ j e = z
 
 -- 1 where a place asks the node order, 2 where it asks the party order
 abbrev pub asks_at : Place → ℕ
-asks_at c = elim c [ OpenTray ↦ 0 | ReadTray ↦ 0 | LookForNode ↦ 1 | LockNode n ↦ 0 | Recheck n ↦ 0 | UnlockAndGoBack n ↦ 0 | ReadKid n k ↦ 0 | ClearKid n k w ↦ 0 | UncountKid n k w ↦ 0 | Claim n ↦ 0 | Unlock n ↦ 0 | Offer n ↦ 2 | KeepForOneself n ↦ 0 | GiveBack n ↦ 0 | CloseTray n ↦ 0 | WriteData n ↦ 0 | CountKid v k ↦ 0 | LinkKid v k w ↦ 0 ]
+asks_at c = elim c [ LookForNode ↦ 1 | Offer n ↦ 2 | _ ↦ 0 ]
 
 -- 1 unless the party has taken a free node and not yet offered it
 abbrev pub waits_at : (ℕ → ℕ) → Place → ℕ
-waits_at f OpenTray = 1
-waits_at f ReadTray = 1
-waits_at f LookForNode = 1
-waits_at f (LockNode n) = 1
 waits_at f (Recheck n) = cond (eqb (f n) 0) 0 1
-waits_at f (UnlockAndGoBack n) = 1
 waits_at f (ReadKid n k) = 0
 waits_at f (ClearKid n k w) = 0
 waits_at f (UncountKid n k w) = 0
 waits_at f (Claim n) = 0
 waits_at f (Unlock n) = 0
 waits_at f (Offer n) = 0
-waits_at f (KeepForOneself n) = 1
-waits_at f (GiveBack n) = 1
-waits_at f (CloseTray n) = 1
-waits_at f (WriteData n) = 1
-waits_at f (CountKid v k) = 1
-waits_at f (LinkKid v k w) = 1
+waits_at f _ = 1
 
 abbrev pub waits : {D : Type 0} → (ℕ → ℕ) → Running D → ℕ
-waits f Idle = 1
-waits f (Reads g) = 1
-waits f (GoesDown k) = 1
-waits f (WalkReads t g) = 1
-waits f (WalkGoesDown t k) = 1
 waits f (Works j c) = waits_at f c
-waits f (Keeps i) = 1
-waits f (Drops i) = 1
-waits f (Fetches i) = 1
-waits f (Hands i q) = 1
-waits f (TakesOut i v) = 1
+waits f _ = 1
 
 -- how many takings may still happen before o is served
 unfoldable pub togo : {D : Type 0} → ℕ → (ℕ → ℕ → ℕ) → (ℕ → ℕ) → (ℕ → Running D) → ℕ → ℕ
 togo N due f run o = sum_to N (λ q. due q o + waits f (run q))
-
-pub sum_le : (n : ℕ) (f g : ℕ → ℕ) → ((k : ℕ) → 1 ≤ k → k ≤ n → f k ≤ g k) → sum_to n f ≤ sum_to n g
-unfolding sum_to
-sum_le zero f g h = omega arith
-sum_le (suc n) f g h = let d = sum_le n f g (λ k a b. h k a (omega arith)) in let e = h (suc n) (omega arith) (omega arith) in omega arith
 
 pub sum_lt : (n : ℕ) (f g : ℕ → ℕ) (p : ℕ) → 1 ≤ p → p ≤ n → ((k : ℕ) → 1 ≤ k → k ≤ n → f k ≤ g k) → f p < g p → sum_to n f < sum_to n g
 unfolding sum_to
@@ -151,34 +104,8 @@ bit_le f g n h =
 
 -- another's step: whoever waits goes on waiting, or less
 pub waits_le : {D : Type 0} (f g : ℕ → ℕ) (r : Running D) → ((n : ℕ) → (reliance r).locked ≡ n → f n ≡ 0 → g n ≡ 0) → waits g r ≤ waits f r
-waits_le f g Idle h = omega arith
-waits_le f g (Reads y) h = omega arith
-waits_le f g (GoesDown y) h = omega arith
-waits_le f g (WalkReads t y) h = omega arith
-waits_le f g (WalkGoesDown t y) h = omega arith
-waits_le f g (Keeps i) h = omega arith
-waits_le f g (Drops i) h = omega arith
-waits_le f g (Fetches i) h = omega arith
-waits_le f g (Hands i q) h = omega arith
-waits_le f g (TakesOut i v) h = omega arith
-waits_le f g (Works j OpenTray) h = omega arith
-waits_le f g (Works j ReadTray) h = omega arith
-waits_le f g (Works j LookForNode) h = omega arith
-waits_le f g (Works j (LockNode n)) h = omega arith
 waits_le f g (Works j (Recheck n)) h = bit_le f g n (h n refl)
-waits_le f g (Works j (UnlockAndGoBack n)) h = omega arith
-waits_le f g (Works j (ReadKid n i)) h = omega arith
-waits_le f g (Works j (ClearKid n i w)) h = omega arith
-waits_le f g (Works j (UncountKid n i w)) h = omega arith
-waits_le f g (Works j (Claim n)) h = omega arith
-waits_le f g (Works j (Unlock n)) h = omega arith
-waits_le f g (Works j (Offer n)) h = omega arith
-waits_le f g (Works j (KeepForOneself n)) h = omega arith
-waits_le f g (Works j (GiveBack n)) h = omega arith
-waits_le f g (Works j (CloseTray n)) h = omega arith
-waits_le f g (Works j (WriteData n)) h = omega arith
-waits_le f g (Works j (CountKid v i)) h = omega arith
-waits_le f g (Works j (LinkKid v i w)) h = omega arith
+waits_le f g _ h = omega arith
 
 module _ {D : Type 0} (N M : ℕ) (s : Store D) (I : Inv N M s) (p : ℕ) (a : 1 ≤ p) (b : p ≤ N) (x : ℕ) (c : Place) (j : Job D) (e : s.run p ≡ Works j c) where
   -- the others wait no more than before
@@ -231,34 +158,8 @@ taking N M s I p a b x n j e z l due o =
     (togo_lt N M s I p a b x (LockNode n) j e due due o (λ k _ _ d. refl) t (ap (λ u. u.count) (sym q)) (λ k d. upd_other s.run p k (Works j (Recheck n)) d) (omega arith))
 
 pub waits_one : {D : Type 0} (f : ℕ → ℕ) (r : Running D) → waits f r ≤ 1
-waits_one f Idle = omega arith
-waits_one f (Reads y) = omega arith
-waits_one f (GoesDown y) = omega arith
-waits_one f (WalkReads t y) = omega arith
-waits_one f (WalkGoesDown t y) = omega arith
-waits_one f (Keeps i) = omega arith
-waits_one f (Drops i) = omega arith
-waits_one f (Fetches i) = omega arith
-waits_one f (Hands i q) = omega arith
-waits_one f (TakesOut i v) = omega arith
-waits_one f (Works j OpenTray) = omega arith
-waits_one f (Works j ReadTray) = omega arith
-waits_one f (Works j LookForNode) = omega arith
-waits_one f (Works j (LockNode n)) = omega arith
 waits_one f (Works j (Recheck n)) = cond_both (eqb (f n) 0) 0 1 (λ t. t ≤ 1) (λ _. omega arith) (λ _. omega arith)
-waits_one f (Works j (UnlockAndGoBack n)) = omega arith
-waits_one f (Works j (ReadKid n i)) = omega arith
-waits_one f (Works j (ClearKid n i w)) = omega arith
-waits_one f (Works j (UncountKid n i w)) = omega arith
-waits_one f (Works j (Claim n)) = omega arith
-waits_one f (Works j (Unlock n)) = omega arith
-waits_one f (Works j (Offer n)) = omega arith
-waits_one f (Works j (KeepForOneself n)) = omega arith
-waits_one f (Works j (GiveBack n)) = omega arith
-waits_one f (Works j (CloseTray n)) = omega arith
-waits_one f (Works j (WriteData n)) = omega arith
-waits_one f (Works j (CountKid v i)) = omega arith
-waits_one f (Works j (LinkKid v i w)) = omega arith
+waits_one f _ = omega arith
 
 after_kid_waits : {D : Type 0} (f : ℕ → ℕ) (j : Job D) (n : ℕ) (k : Kid) → waits f (Works j (after_kid n k)) ≡ 0
 after_kid_waits f j n First = refl
@@ -279,15 +180,10 @@ module _ {D : Type 0} (s : Store D) (p x : ℕ) (d d' : ℕ) where
 
   pub own_no_more : (c : Place) (j : Job D) → d' ≤ d → ((n : ℕ) → c ≡ Offer n → d' + 1 ≤ d) → NoMore c (place_step c j s p x)
   unfolding NoMore
-  own_no_more OpenTray j l h = free_no_more OpenTray refl l (place_step OpenTray j s p x)
-  own_no_more ReadTray j l h = free_no_more ReadTray refl l (place_step ReadTray j s p x)
-  own_no_more LookForNode j l h = free_no_more LookForNode refl l (place_step LookForNode j s p x)
-  own_no_more (LockNode n) j l h = free_no_more (LockNode n) refl l (place_step (LockNode n) j s p x)
   own_no_more (Recheck n) j l h = elim (cases_eq (s.count n) 0) [
     | inr z ↦ free_no_more (Recheck n) (cond-false (eqb (s.count n) 0) 0 1 (ne_eqb (s.count n) 0 z)) l (place_step (Recheck n) j s p x)
     | inl z ↦ subst (NoMore (Recheck n)) (sym (cond-true (eqb (s.count n) 0) (set_run s p (Works j (ReadKid n First))) (set_run s p (Works j (UnlockAndGoBack n))) (eq-eqb (s.count n) 0 z))) (moved_no_more (Recheck n) s.count (Works j (ReadKid n First)) (omega arith))
   ]
-  own_no_more (UnlockAndGoBack n) j l h = free_no_more (UnlockAndGoBack n) refl l (place_step (UnlockAndGoBack n) j s p x)
   own_no_more (ReadKid n k) j l h = cond_both (eqb (kid_at (s.kids n) k) 0) (set_run s p (Works j (after_kid n k))) (set_run s p (Works j (ClearKid n k (kid_at (s.kids n) k)))) (NoMore (ReadKid n k))
       (λ _. moved_no_more (ReadKid n k) s.count (Works j (after_kid n k)) (omega (arith, after_kid_waits s.count j n k)))
       (λ _. moved_no_more (ReadKid n k) s.count (Works j (ClearKid n k (kid_at (s.kids n) k))) (omega arith))
@@ -296,12 +192,7 @@ module _ {D : Type 0} (s : Store D) (p x : ℕ) (d d' : ℕ) where
   own_no_more (Claim n) j l h = moved_no_more (Claim n) (upd s.count n 1) (Works j (Unlock n)) (omega arith)
   own_no_more (Unlock n) j l h = moved_no_more (Unlock n) s.count (Works j (Offer n)) (omega arith)
   own_no_more (Offer n) j l h = let k = h n refl in omega (arith, waits_one (place_step (Offer n) j s p x).count ((place_step (Offer n) j s p x).run p))
-  own_no_more (KeepForOneself n) j l h = free_no_more (KeepForOneself n) refl l (place_step (KeepForOneself n) j s p x)
-  own_no_more (GiveBack n) j l h = free_no_more (GiveBack n) refl l (place_step (GiveBack n) j s p x)
-  own_no_more (CloseTray n) j l h = free_no_more (CloseTray n) refl l (place_step (CloseTray n) j s p x)
-  own_no_more (WriteData n) j l h = free_no_more (WriteData n) refl l (place_step (WriteData n) j s p x)
-  own_no_more (CountKid v k) j l h = free_no_more (CountKid v k) refl l (place_step (CountKid v k) j s p x)
-  own_no_more (LinkKid v k w) j l h = free_no_more (LinkKid v k w) refl l (place_step (LinkKid v k w) j s p x)
+  own_no_more c j l h = free_no_more c refl l (place_step c j s p x)
 
 -- the arithmetic of the rank: S is the span, T the takings to go, d the due of a free node, L the steps left
 pub miss : (S T d d' L L' r : ℕ) → d' + 1 ≤ d → L' ≤ L + 17 → 18 * (S * T + d) + L + 9 ≤ suc r → 18 * (S * T + d') + L' + 9 ≤ r
@@ -326,16 +217,11 @@ module _ {D : Type 0} (s : Store D) (p x n : ℕ) (z : s.lock n ≡ 0) where
   -- only LockNode locks
   pub unlocked_stays : (c : Place) (j : Job D) → ((m : ℕ) → c ≡ LockNode m → n ≢ m) → (place_step c j s p x).lock n ≡ 0
   unfolding StaysUnlocked
-  unlocked_stays OpenTray j h = z
-  unlocked_stays ReadTray j h = z
   unlocked_stays LookForNode j h = cond_both (eqb (s.count x) 0) (set_run s p (Works j (LockNode x))) (set_run s p (back j)) StaysUnlocked (λ _. z) (λ _. z)
   unlocked_stays (LockNode m) j h = cond_both (eqb (s.lock m) 0) (set_run (set_lock s m p) p (Works j (Recheck m))) (set_run s p (back j)) StaysUnlocked (λ _. upd_other s.lock m n p (h m refl) ∙ z) (λ _. z)
   unlocked_stays (Recheck m) j h = cond_both (eqb (s.count m) 0) (set_run s p (Works j (ReadKid m First))) (set_run s p (Works j (UnlockAndGoBack m))) StaysUnlocked (λ _. z) (λ _. z)
   unlocked_stays (UnlockAndGoBack m) j h = unlock m
   unlocked_stays (ReadKid m k) j h = cond_both (eqb (kid_at (s.kids m) k) 0) (set_run s p (Works j (after_kid m k))) (set_run s p (Works j (ClearKid m k (kid_at (s.kids m) k)))) StaysUnlocked (λ _. z) (λ _. z)
-  unlocked_stays (ClearKid m k w) j h = z
-  unlocked_stays (UncountKid m k w) j h = z
-  unlocked_stays (Claim m) j h = z
   unlocked_stays (Unlock m) j h = unlock m
   unlocked_stays (Offer m) (Makes y) h = cond_both (eqb x p) (own_tray (Makes y) s p m) (cond (is_open (s.tray x)) (set_run (set_tray s x (Holding m)) p (back (Makes y))) (set_run s p (Works (Makes y) (KeepForOneself m)))) StaysUnlocked
       (λ _. cond_both (is_open (s.tray p)) (set_run (set_tray s p (Holding m)) p (Works (Makes y) (CloseTray m))) (set_run s p (Works (Makes y) (GiveBack m))) StaysUnlocked (λ _. z) (λ _. z))
@@ -343,14 +229,10 @@ module _ {D : Type 0} (s : Store D) (p x n : ℕ) (z : s.lock n ≡ 0) where
   unlocked_stays (Offer m) Sweeps h = cond_both (eqb x p) (set_run (set_count s m 0) p Idle) (cond (is_open (s.tray x)) (set_run (set_tray s x (Holding m)) p Idle) (set_run s p (Works Sweeps (GiveBack m)))) StaysUnlocked
       (λ _. z) (λ _. cond_both (is_open (s.tray x)) (set_run (set_tray s x (Holding m)) p Idle) (set_run s p (Works Sweeps (GiveBack m))) StaysUnlocked (λ _. z) (λ _. z))
   unlocked_stays (KeepForOneself m) j h = cond_both (is_open (s.tray p)) (set_run (set_tray s p (Holding m)) p (Works j (CloseTray m))) (set_run s p (Works j (GiveBack m))) StaysUnlocked (λ _. z) (λ _. z)
-  unlocked_stays (GiveBack m) j h = z
-  unlocked_stays (CloseTray v) j h = z
-  unlocked_stays (WriteData v) (Makes y) h = give_first_by StaysUnlocked y s p v (λ r f. z)
-  unlocked_stays (WriteData v) Sweeps h = z
+  unlocked_stays (WriteData v) (Makes y) h = first_any StaysUnlocked y s p v z (λ k. z)
   unlocked_stays (CountKid v k) (Makes y) h = z
-  unlocked_stays (CountKid v k) Sweeps h = z
-  unlocked_stays (LinkKid v k w) (Makes y) h = after_by StaysUnlocked y (set_kid s v k w) p v k (λ r f. z)
-  unlocked_stays (LinkKid v k w) Sweeps h = z
+  unlocked_stays (LinkKid v k w) (Makes y) h = after_any StaysUnlocked y (set_kid s v k w) p v z (λ k. z) k
+  unlocked_stays _ j h = z
 
 -- o waits: some free node is near enough in its order for the turns r that it is given
 abbrev pub Waiting : {D : Type 0} → (N M S : ℕ) → Store D → (ℕ → ℕ → ℕ) → (ℕ → ℕ) → (o L r : ℕ) → Type 0
@@ -358,23 +240,7 @@ Waiting N M S s due nd o L r = (n : ℕ) × Free M s n × (18 * (S * togo N due 
 
 pub locks_it_or_not : (c : Place) (n : ℕ) → (c ≡ LockNode n) ⊎ ((m : ℕ) → c ≡ LockNode m → n ≢ m)
 locks_it_or_not (LockNode m) n = elim (cases_eq m n) [ inl e ↦ inl (ap LockNode e) | inr d ↦ inr (λ k e q. d (let u : m ≡ k = cc in u ∙ sym q)) ]
-locks_it_or_not OpenTray n = inr (λ k e q. (let u : ◌≡◌ {A = ℕ} 0 1 = cc in omega arith))
-locks_it_or_not ReadTray n = inr (λ k e q. (let u : ◌≡◌ {A = ℕ} 0 1 = cc in omega arith))
-locks_it_or_not LookForNode n = inr (λ k e q. (let u : ◌≡◌ {A = ℕ} 0 1 = cc in omega arith))
-locks_it_or_not (Recheck m) n = inr (λ k e q. (let u : ◌≡◌ {A = ℕ} 0 1 = cc in omega arith))
-locks_it_or_not (UnlockAndGoBack m) n = inr (λ k e q. (let u : ◌≡◌ {A = ℕ} 0 1 = cc in omega arith))
-locks_it_or_not (ReadKid m i) n = inr (λ k e q. (let u : ◌≡◌ {A = ℕ} 0 1 = cc in omega arith))
-locks_it_or_not (ClearKid m i w) n = inr (λ k e q. (let u : ◌≡◌ {A = ℕ} 0 1 = cc in omega arith))
-locks_it_or_not (UncountKid m i w) n = inr (λ k e q. (let u : ◌≡◌ {A = ℕ} 0 1 = cc in omega arith))
-locks_it_or_not (Claim m) n = inr (λ k e q. (let u : ◌≡◌ {A = ℕ} 0 1 = cc in omega arith))
-locks_it_or_not (Unlock m) n = inr (λ k e q. (let u : ◌≡◌ {A = ℕ} 0 1 = cc in omega arith))
-locks_it_or_not (Offer m) n = inr (λ k e q. (let u : ◌≡◌ {A = ℕ} 0 1 = cc in omega arith))
-locks_it_or_not (KeepForOneself m) n = inr (λ k e q. (let u : ◌≡◌ {A = ℕ} 0 1 = cc in omega arith))
-locks_it_or_not (GiveBack m) n = inr (λ k e q. (let u : ◌≡◌ {A = ℕ} 0 1 = cc in omega arith))
-locks_it_or_not (CloseTray m) n = inr (λ k e q. (let u : ◌≡◌ {A = ℕ} 0 1 = cc in omega arith))
-locks_it_or_not (WriteData m) n = inr (λ k e q. (let u : ◌≡◌ {A = ℕ} 0 1 = cc in omega arith))
-locks_it_or_not (CountKid m i) n = inr (λ k e q. (let u : ◌≡◌ {A = ℕ} 0 1 = cc in omega arith))
-locks_it_or_not (LinkKid m i w) n = inr (λ k e q. (let u : ◌≡◌ {A = ℕ} 0 1 = cc in omega arith))
+locks_it_or_not _ n = inr (λ k e q. (let u : ◌≡◌ {A = ℕ} 0 1 = cc in omega arith))
 
 pub same_due : {D : Type 0} (N : ℕ) (due due' : ℕ → ℕ → ℕ) (f : ℕ → ℕ) (run : ℕ → Running D) (o : ℕ) → ((k : ℕ) → 1 ≤ k → k ≤ N → due' k o ≤ due k o) → togo N due' f run o ≤ togo N due f run o
 unfolding togo
@@ -409,7 +275,6 @@ other_waits N M S s I p a b x c j e due due' nd o L r ga gb gc gd ge fr w =
     ]
 
 abbrev pub left : Place → ℕ
-left OpenTray = 0
 left ReadTray = 18
 left LookForNode = 17
 left (LockNode n) = 34
@@ -423,10 +288,7 @@ left (Unlock n) = 22
 left (Offer n) = 21
 left (KeepForOneself n) = 20
 left (GiveBack n) = 19
-left (CloseTray n) = 0
-left (WriteData n) = 0
-left (CountKid v k) = 0
-left (LinkKid v k w) = 0
+left _ = 0
 
 -- p stands at LockNode with a free node: that taking is as good as done
 abbrev pub Hoping : {D : Type 0} → (N M S : ℕ) → Store D → (ℕ → ℕ → ℕ) → (o n r : ℕ) → Type 0
@@ -441,10 +303,6 @@ module _ {D : Type 0} (N M S : ℕ) (s : Store D) (I : Inv N M s) (p : ℕ) (a :
       let t = place_step c j s p x in
       togo_le N M s I p a b x c j e due due p (λ q _ _ d. refl) t refl k
       (subst (λ q. due p p + waits t.count (t.run p) ≤ due p p + waits s.count q) (sym e) (own_no_more s p x (due p p) (due p p) c j (omega arith) (λ n q. absurd (h n q))))
-
-  pos_togo : waits s.count (s.run p) ≡ 1 → 1 ≤ togo N due s.count s.run p
-  unfolding togo
-  pos_togo h = omega (arith, sum_to_at N (λ q. due q p + waits s.count (s.run q)) p a b)
 
   hope_pos : 1 ≤ togo N due s.count (upd s.run p (Works j (LockNode x))) p
   unfolding togo

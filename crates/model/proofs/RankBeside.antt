@@ -2,38 +2,27 @@
 use Rattle.std.proofs.Common.{◌≡◌, ℕ, suc, ◌+◌, ◌-◌, ◌<◌, ◌≤◌, true, false, cond, eqb, ◌≢◌, sym, refl, ap, ◌∙◌, inl, inr, arith}
 use Rattle.std.proofs.lemmas.Bool.{cases_eq, cond_both, eqb-true}
 use Rattle.model.specs.Fun.{upd}
-use Rattle.model.specs.Types.{First, Closed, Open, Holding, Place, OpenTray, ReadTray, LookForNode, LockNode, Recheck, UnlockAndGoBack, ReadKid, ClearKid, UncountKid, Claim, Unlock, Offer, KeepForOneself, GiveBack, CloseTray, WriteData, CountKid, LinkKid, Plan, Job, Makes, Sweeps, Running, Idle, Works}
+use Rattle.model.specs.Types.{First, Closed, Open, Holding, Place, OpenTray, LookForNode, LockNode, Recheck, UnlockAndGoBack, ReadKid, ClearKid, Offer, KeepForOneself, GiveBack, CloseTray, WriteData, CountKid, LinkKid, Plan, Job, Makes, Sweeps, Running, Idle, Works}
 use Rattle.model.specs.State.{kid_at, Store, set_count, set_lock, set_kid, set_tray, set_run}
 use Rattle.model.specs.Steps.{after_kid}
 use Rattle.model.specs.Reach.{Free}
 use Rattle.model.specs.Inv.{Inv}
+use Rattle.model.proofs.Gives.{first_any, after_any}
 use Rattle.model.proofs.Explicit.{is_open, back, own_tray, place_step}
-use Rattle.model.proofs.Sums.{upd_same, upd_other}
+use Rattle.model.proofs.Sums.{upd_same, upd_other, sum_le}
 use Rattle.model.proofs.Make.{open_is}
-use Rattle.model.proofs.Rank.{asks_at, give_first_by, after_by, waits, waits_le, waits_one, togo, sum_le, left, fewer}
+use Rattle.model.proofs.Rank.{asks_at, waits, waits_le, waits_one, togo, left, fewer}
 use Rattle.model.proofs.RankSteps.{Mid, has, wants, hopes, PlaceRank, mid_served, Turned, turn_waits, turn_hopes, LockNode_waits, weaken, hope_less, not_open}
 
 -- the rank goes along where what is sought goes along
 module _ {D : Type 0} (N M S P : ℕ) (s t : Store D) (due due' : ℕ → ℕ → ℕ) (nd nd' : ℕ → ℕ) (p r : ℕ) where
   rank_along : (c : Place) → (Mid N M S P s due nd p r c → Mid N M S P t due' nd' p r c) → PlaceRank N M S P s due nd p r c → PlaceRank N M S P t due' nd' p r c
   rank_along OpenTray f h = h
-  rank_along ReadTray f h = f h
-  rank_along LookForNode f h = f h
-  rank_along (LockNode n) f h = f h
-  rank_along (Recheck n) f h = f h
-  rank_along (UnlockAndGoBack n) f h = f h
-  rank_along (ReadKid n k) f h = f h
-  rank_along (ClearKid n k w) f h = f h
-  rank_along (UncountKid n k w) f h = f h
-  rank_along (Claim n) f h = f h
-  rank_along (Unlock n) f h = f h
-  rank_along (Offer n) f h = f h
-  rank_along (KeepForOneself n) f h = f h
-  rank_along (GiveBack n) f h = f h
   rank_along (CloseTray v) f h = h
   rank_along (WriteData v) f h = h
   rank_along (CountKid v k) f h = h
   rank_along (LinkKid v k w) f h = h
+  rank_along _ f h = f h
 
 -- another's step and p's tray
 module _ {D : Type 0} (s : Store D) (q x p : ℕ) (ne : p ≢ q) where
@@ -55,17 +44,11 @@ module _ {D : Type 0} (s : Store D) (q x p : ℕ) (ne : p ≢ q) where
 
   pub tray_after : (c : Place) (j : Job D) → TrayAfter c (place_step c j s q x)
   tray_after OpenTray j = tray_unchanged OpenTray (place_step OpenTray j s q x) (upd_other s.tray q p Open ne) (λ z. omega arith)
-  tray_after ReadTray j = tray_unchanged ReadTray (place_step ReadTray j s q x) refl (λ z. omega arith)
   tray_after LookForNode j = cond_both (eqb (s.count x) 0) (set_run s q (Works j (LockNode x))) (set_run s q (back j)) (TrayAfter LookForNode) (λ _. tray_unchanged LookForNode (set_run s q (Works j (LockNode x))) refl (λ z. omega arith)) (λ _. tray_unchanged LookForNode (set_run s q (back j)) refl (λ z. omega arith))
   tray_after (LockNode m) j = cond_both (eqb (s.lock m) 0) (set_run (set_lock s m q) q (Works j (Recheck m))) (set_run s q (back j)) (TrayAfter (LockNode m)) (λ _. tray_unchanged (LockNode m) (set_run (set_lock s m q) q (Works j (Recheck m))) refl (λ z. omega arith)) (λ _. tray_unchanged (LockNode m) (set_run s q (back j)) refl (λ z. omega arith))
   tray_after (Recheck m) j = cond_both (eqb (s.count m) 0) (set_run s q (Works j (ReadKid m First))) (set_run s q (Works j (UnlockAndGoBack m))) (TrayAfter (Recheck m)) (λ _. tray_unchanged (Recheck m) (set_run s q (Works j (ReadKid m First))) refl (λ z. omega arith)) (λ _. tray_unchanged (Recheck m) (set_run s q (Works j (UnlockAndGoBack m))) refl (λ z. omega arith))
-  tray_after (UnlockAndGoBack m) j = tray_unchanged (UnlockAndGoBack m) (place_step (UnlockAndGoBack m) j s q x) refl (λ z. omega arith)
   tray_after (ReadKid m k) j = cond_both (eqb (kid_at (s.kids m) k) 0) (set_run s q (Works j (after_kid m k))) (set_run s q (Works j (ClearKid m k (kid_at (s.kids m) k)))) (TrayAfter (ReadKid m k))
       (λ _. tray_unchanged (ReadKid m k) (set_run s q (Works j (after_kid m k))) refl (λ z. omega arith)) (λ _. tray_unchanged (ReadKid m k) (set_run s q (Works j (ClearKid m k (kid_at (s.kids m) k)))) refl (λ z. omega arith))
-  tray_after (ClearKid m k w) j = tray_unchanged (ClearKid m k w) (place_step (ClearKid m k w) j s q x) refl (λ z. omega arith)
-  tray_after (UncountKid m k w) j = tray_unchanged (UncountKid m k w) (place_step (UncountKid m k w) j s q x) refl (λ z. omega arith)
-  tray_after (Claim m) j = tray_unchanged (Claim m) (place_step (Claim m) j s q x) refl (λ z. omega arith)
-  tray_after (Unlock m) j = tray_unchanged (Unlock m) (place_step (Unlock m) j s q x) refl (λ z. omega arith)
   tray_after (Offer m) (Makes y) = cond_both (eqb x q) (own_tray (Makes y) s q m) (cond (is_open (s.tray x)) (set_run (set_tray s x (Holding m)) q (back (Makes y))) (set_run s q (Works (Makes y) (KeepForOneself m)))) (TrayAfter (Offer m))
       (λ e. cond_both (is_open (s.tray q)) (set_run (set_tray s q (Holding m)) q (Works (Makes y) (CloseTray m))) (set_run s q (Works (Makes y) (GiveBack m))) (TrayAfter (Offer m))
       (λ _. as_it_was (upd_other s.tray q p (Holding m) ne) (λ _ _ k. ne (sym k ∙ eqb-true x q e))) (λ _. as_it_was refl (λ _ _ k. ne (sym k ∙ eqb-true x q e))))
@@ -75,14 +58,11 @@ module _ {D : Type 0} (s : Store D) (q x p : ℕ) (ne : p ≢ q) where
       (λ d. cond_both (is_open (s.tray x)) (set_run (set_tray s x (Holding m)) q Idle) (set_run s q (Works Sweeps (GiveBack m))) (TrayAfter (Offer m)) (λ o. pick_tray m Idle d o) (λ o. pick_none m (Works Sweeps (GiveBack m)) o))
   tray_after (KeepForOneself m) j = cond_both (is_open (s.tray q)) (set_run (set_tray s q (Holding m)) q (Works j (CloseTray m))) (set_run s q (Works j (GiveBack m))) (TrayAfter (KeepForOneself m))
       (λ _. tray_unchanged (KeepForOneself m) (set_run (set_tray s q (Holding m)) q (Works j (CloseTray m))) (upd_other s.tray q p (Holding m) ne) (λ z. omega arith)) (λ _. tray_unchanged (KeepForOneself m) (set_run s q (Works j (GiveBack m))) refl (λ z. omega arith))
-  tray_after (GiveBack m) j = tray_unchanged (GiveBack m) (place_step (GiveBack m) j s q x) refl (λ z. omega arith)
   tray_after (CloseTray v) j = tray_unchanged (CloseTray v) (place_step (CloseTray v) j s q x) (upd_other s.tray q p Closed ne) (λ z. omega arith)
-  tray_after (WriteData v) (Makes y) = give_first_by (TrayAfter (WriteData v)) y s q v (λ r f. as_it_was refl (λ _ z. absurd (omega arith)))
-  tray_after (WriteData v) Sweeps = tray_unchanged (WriteData v) s refl (λ z. omega arith)
+  tray_after (WriteData v) (Makes y) = first_any (TrayAfter (WriteData v)) y s q v (as_it_was refl (λ _ z. absurd (omega arith))) (λ k. as_it_was refl (λ _ z. absurd (omega arith)))
   tray_after (CountKid v k) (Makes y) = tray_unchanged (CountKid v k) (place_step (CountKid v k) (Makes y) s q x) refl (λ z. omega arith)
-  tray_after (CountKid v k) Sweeps = tray_unchanged (CountKid v k) s refl (λ z. omega arith)
-  tray_after (LinkKid v k w) (Makes y) = after_by (TrayAfter (LinkKid v k w)) y (set_kid s v k w) q v k (λ r f. as_it_was refl (λ _ z. absurd (omega arith)))
-  tray_after (LinkKid v k w) Sweeps = tray_unchanged (LinkKid v k w) s refl (λ z. omega arith)
+  tray_after (LinkKid v k w) (Makes y) = after_any (TrayAfter (LinkKid v k w)) y (set_kid s v k w) q v (as_it_was refl (λ _ z. absurd (omega arith))) (λ k. as_it_was refl (λ _ z. absurd (omega arith))) k
+  tray_after c j = tray_unchanged c (place_step c j s q x) refl (λ z. omega arith)
 
 -- a step of another's Make or Sweep
 module _ {D : Type 0} (N M S P : ℕ) (s : Store D) (I : Inv N M s) (q : ℕ) (a : 1 ≤ q) (b : q ≤ N) (x : ℕ) (c : Place) (j : Job D) (e : s.run q ≡ Works j c)

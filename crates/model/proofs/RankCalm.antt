@@ -16,33 +16,15 @@ use Rattle.model.proofs.RankBeside.{Calm}
 
 -- a call that is no Make and no Sweep
 abbrev pub NoJob : {D : Type 0} → Running D → Type 0
-NoJob r = elim r [ Works j c ↦ ⊥ | Idle ↦ Unit {0} | Reads g ↦ Unit {0} | GoesDown k ↦ Unit {0} | Keeps i ↦ Unit {0} | Drops i ↦ Unit {0} | Hands i q ↦ Unit {0} | Fetches i ↦ Unit {0} | TakesOut i v ↦ Unit {0} | WalkReads t g ↦ Unit {0} | WalkGoesDown t k ↦ Unit {0} ]
+NoJob r = elim r [ Works j c ↦ ⊥ | _ ↦ Unit {0} ]
 
 pub job_or_none : {D : Type 0} (r : Running D) → ((j : Job D) × ((c : Place) × (r ≡ Works j c))) ⊎ NoJob r
-job_or_none Idle = inr tt
-job_or_none (Reads g) = inr tt
-job_or_none (GoesDown k) = inr tt
-job_or_none (WalkReads t g) = inr tt
-job_or_none (WalkGoesDown t k) = inr tt
 job_or_none (Works j c) = inl (j, (c, refl))
-job_or_none (Keeps i) = inr tt
-job_or_none (Drops i) = inr tt
-job_or_none (Fetches i) = inr tt
-job_or_none (Hands i q) = inr tt
-job_or_none (TakesOut i v) = inr tt
+job_or_none _ = inr tt
 
 pub no_job_waits : {D : Type 0} (f : ℕ → ℕ) (r : Running D) → NoJob r → waits f r ≡ 1
-no_job_waits f Idle h = refl
-no_job_waits f (Reads g) h = refl
-no_job_waits f (GoesDown k) h = refl
-no_job_waits f (WalkReads t g) h = refl
-no_job_waits f (WalkGoesDown t k) h = refl
 no_job_waits f (Works j c) h = absurd h
-no_job_waits f (Keeps i) h = refl
-no_job_waits f (Drops i) h = refl
-no_job_waits f (Fetches i) h = refl
-no_job_waits f (Hands i q) h = refl
-no_job_waits f (TakesOut i v) h = refl
+no_job_waits f _ h = refl
 
 module _ {D : Type 0} (s : Store D) (q : ℕ) (w : waits s.count (s.run q) ≡ 1) where
   run_calm : (u : Store D) (r : Running D) → ((n : ℕ) → s.count n ≡ 0 → u.count n ≡ 0) → u.lock ≡ s.lock → u.tray ≡ s.tray → u.run ≡ s.run → Calm s (set_run u q r) q

@@ -1,21 +1,19 @@
 -- Make's bound, one step at a time: what p's own steps and the steps of others do to the rank.
-use Rattle.std.proofs.Common.{◌≡◌, ℕ, zero, suc, ◌+◌, ◌-◌, ◌*◌, ◌<◌, ◌≤◌, Bool, true, false, cond, eqb, ◌≢◌, ◌⊎◌, sym, refl, ap, ◌∙◌, subst, inl, inr, true≢false, mul-le-mul_left, arith}
+use Rattle.std.proofs.Common.{◌≡◌, ℕ, suc, ◌+◌, ◌-◌, ◌*◌, ◌<◌, ◌≤◌, Bool, true, false, cond, eqb, ◌≢◌, ◌⊎◌, sym, refl, ap, ◌∙◌, subst, inl, inr, true≢false, mul-le-mul_left, arith}
 use Rattle.std.proofs.lemmas.Bool.{cases_eq, cond_both, eqb-false, cond-false, ne_eqb}
-use Rattle.model.specs.Fun.{sum_to}
-use Rattle.model.specs.Types.{Kid, First, Second, Third, Tray, Closed, Open, Holding, Place, OpenTray, ReadTray, LookForNode, LockNode, Recheck, UnlockAndGoBack, ReadKid, ClearKid, UncountKid, Claim, Unlock, Offer, KeepForOneself, GiveBack, CloseTray, WriteData, CountKid, LinkKid, Plan, Job, Makes, Sweeps, Running, Idle, Reads, GoesDown, Keeps, Drops, Hands, Fetches, TakesOut, Works, WalkReads, WalkGoesDown}
+use Rattle.model.specs.Types.{Kid, First, Second, Third, Tray, Closed, Open, Holding, Place, OpenTray, ReadTray, LookForNode, LockNode, Recheck, UnlockAndGoBack, ReadKid, ClearKid, UncountKid, Claim, Unlock, Offer, KeepForOneself, GiveBack, CloseTray, WriteData, CountKid, LinkKid, Plan, Job, Makes, Running, Idle, Works}
 use Rattle.model.specs.State.{position, kid_at, Store, set_count, set_lock, set_kid, set_tray, set_slot, set_run}
 use Rattle.model.specs.Steps.{after_kid}
 use Rattle.model.specs.Reach.{Free}
 use Rattle.model.specs.Inv.{Inv}
-use Rattle.model.proofs.Explicit.{is_open, made, give_after, at_ReadTray, own_tray, place_step, give_first, give_second, give_third}
-use Rattle.model.proofs.Sums.{upd_same, upd_other, sum_to_at}
+use Rattle.model.proofs.Gives.{first_by, after_by}
+use Rattle.model.proofs.Explicit.{is_open, give_after, at_ReadTray, own_tray, place_step, give_first}
+use Rattle.model.proofs.Sums.{upd_same, upd_other, sum_to_at, sum_at_most}
 use Rattle.model.proofs.Make.{position_low}
-use Rattle.model.proofs.Rank.{asks_at, zero_stays, unlocked_stays, waits, waits_one, togo, sum_le, taking, togo_le, Waiting, locks_it_or_not, same_due, other_waits, left, Hoping, rank_LookForNode, NoMore, own_no_more}
+use Rattle.model.proofs.Rank.{asks_at, zero_stays, unlocked_stays, waits, waits_one, togo, taking, togo_le, Waiting, locks_it_or_not, same_due, other_waits, left, Hoping, rank_LookForNode, NoMore, own_no_more}
 
 -- steps to ReadTray once the tray holds a node
 abbrev pub served : Place → ℕ
-served OpenTray = 0
-served ReadTray = 0
 served LookForNode = 17
 served (LockNode n) = 16
 served (Recheck n) = 15
@@ -28,55 +26,26 @@ served (Unlock n) = 4
 served (Offer n) = 3
 served (KeepForOneself n) = 2
 served (GiveBack n) = 1
-served (CloseTray n) = 0
-served (WriteData n) = 0
-served (CountKid v k) = 0
-served (LinkKid v k w) = 0
+served _ = 0
 
 -- p seeks a node: ReadTray to GiveBack
 abbrev pub seeks : Place → Bool
 seeks OpenTray = false
-seeks ReadTray = true
-seeks LookForNode = true
-seeks (LockNode n) = true
-seeks (Recheck n) = true
-seeks (UnlockAndGoBack n) = true
-seeks (ReadKid n k) = true
-seeks (ClearKid n k w) = true
-seeks (UncountKid n k w) = true
-seeks (Claim n) = true
-seeks (Unlock n) = true
-seeks (Offer n) = true
-seeks (KeepForOneself n) = true
-seeks (GiveBack n) = true
 seeks (CloseTray n) = false
 seeks (WriteData n) = false
 seeks (CountKid v k) = false
 seeks (LinkKid v k w) = false
+seeks _ = true
 
 -- after LookForNode p may stand at LockNode
 abbrev left_before : Place → ℕ
 left_before c = cond (eqb (asks_at c) 1) 35 (left c)
 
 served_left : (c : Place) → served c ≤ left c
-served_left OpenTray = omega arith
-served_left ReadTray = omega arith
-served_left LookForNode = omega arith
-served_left (LockNode n) = omega arith
-served_left (Recheck n) = omega arith
-served_left (UnlockAndGoBack n) = omega arith
 served_left (ReadKid n k) = omega (arith, position_low k)
 served_left (ClearKid n k w) = omega (arith, position_low k)
 served_left (UncountKid n k w) = omega (arith, position_low k)
-served_left (Claim n) = omega arith
-served_left (Unlock n) = omega arith
-served_left (Offer n) = omega arith
-served_left (KeepForOneself n) = omega arith
-served_left (GiveBack n) = omega arith
-served_left (CloseTray n) = omega arith
-served_left (WriteData n) = omega arith
-served_left (CountKid v k) = omega arith
-served_left (LinkKid v k w) = omega arith
+served_left _ = omega arith
 
 module _ {D : Type 0} (N M S P : ℕ) (s : Store D) (due : ℕ → ℕ → ℕ) (nd : ℕ → ℕ) (p r : ℕ) where
   pub data Mid (c : Place) : Type 0 where
@@ -86,58 +55,25 @@ module _ {D : Type 0} (N M S P : ℕ) (s : Store D) (due : ℕ → ℕ → ℕ) 
 
   abbrev pub PlaceRank : Place → Type 0
   PlaceRank OpenTray = 18 * (suc S * (N * P + 1)) + 10 ≤ r
-  PlaceRank ReadTray = Mid ReadTray
-  PlaceRank LookForNode = Mid LookForNode
-  PlaceRank (LockNode n) = Mid (LockNode n)
-  PlaceRank (Recheck n) = Mid (Recheck n)
-  PlaceRank (UnlockAndGoBack n) = Mid (UnlockAndGoBack n)
-  PlaceRank (ReadKid n k) = Mid (ReadKid n k)
-  PlaceRank (ClearKid n k w) = Mid (ClearKid n k w)
-  PlaceRank (UncountKid n k w) = Mid (UncountKid n k w)
-  PlaceRank (Claim n) = Mid (Claim n)
-  PlaceRank (Unlock n) = Mid (Unlock n)
-  PlaceRank (Offer n) = Mid (Offer n)
-  PlaceRank (KeepForOneself n) = Mid (KeepForOneself n)
-  PlaceRank (GiveBack n) = Mid (GiveBack n)
   PlaceRank (CloseTray v) = 8 ≤ r
   PlaceRank (WriteData v) = 7 ≤ r
   PlaceRank (CountKid v k) = 8 - 2 * position k ≤ r
   PlaceRank (LinkKid v k w) = 7 - 2 * position k ≤ r
+  PlaceRank c = Mid c
 
   -- at most r turns of p are left
   abbrev pub RunRank : Running D → Type 0
   RunRank Idle = Unit {0}
-  RunRank (Reads g) = ⊥
-  RunRank (GoesDown k) = ⊥
-  RunRank (WalkReads t g) = ⊥
-  RunRank (WalkGoesDown t k) = ⊥
   RunRank (Works (Makes y) c) = PlaceRank c
-  RunRank (Works Sweeps c) = ⊥
-  RunRank (Keeps i) = ⊥
-  RunRank (Drops i) = ⊥
-  RunRank (Fetches i) = ⊥
-  RunRank (Hands i q) = ⊥
-  RunRank (TakesOut i v) = ⊥
+  RunRank _ = ⊥
 
   pub seeking : (c : Place) → seeks c ≡ true → Mid c → PlaceRank c
   seeking OpenTray h m = absurd (true≢false (sym h))
-  seeking ReadTray h m = m
-  seeking LookForNode h m = m
-  seeking (LockNode n) h m = m
-  seeking (Recheck n) h m = m
-  seeking (UnlockAndGoBack n) h m = m
-  seeking (ReadKid n k) h m = m
-  seeking (ClearKid n k w) h m = m
-  seeking (UncountKid n k w) h m = m
-  seeking (Claim n) h m = m
-  seeking (Unlock n) h m = m
-  seeking (Offer n) h m = m
-  seeking (KeepForOneself n) h m = m
-  seeking (GiveBack n) h m = m
   seeking (CloseTray v) h m = absurd (true≢false (sym h))
   seeking (WriteData v) h m = absurd (true≢false (sym h))
   seeking (CountKid v k) h m = absurd (true≢false (sym h))
   seeking (LinkKid v k w) h m = absurd (true≢false (sym h))
+  seeking _ h m = m
 
   mid_pos : (c : Place) → Mid c → 9 ≤ r
   mid_pos c (has v e h) = omega arith
@@ -146,23 +82,11 @@ module _ {D : Type 0} (N M S P : ℕ) (s : Store D) (due : ℕ → ℕ → ℕ) 
 
   pub rank_pos : (y : Plan D) (c : Place) → PlaceRank c → 1 ≤ r
   rank_pos y OpenTray h = omega arith
-  rank_pos y ReadTray h = omega (arith, mid_pos ReadTray h)
-  rank_pos y LookForNode h = omega (arith, mid_pos LookForNode h)
-  rank_pos y (LockNode n) h = omega (arith, mid_pos (LockNode n) h)
-  rank_pos y (Recheck n) h = omega (arith, mid_pos (Recheck n) h)
-  rank_pos y (UnlockAndGoBack n) h = omega (arith, mid_pos (UnlockAndGoBack n) h)
-  rank_pos y (ReadKid n k) h = omega (arith, mid_pos (ReadKid n k) h)
-  rank_pos y (ClearKid n k w) h = omega (arith, mid_pos (ClearKid n k w) h)
-  rank_pos y (UncountKid n k w) h = omega (arith, mid_pos (UncountKid n k w) h)
-  rank_pos y (Claim n) h = omega (arith, mid_pos (Claim n) h)
-  rank_pos y (Unlock n) h = omega (arith, mid_pos (Unlock n) h)
-  rank_pos y (Offer n) h = omega (arith, mid_pos (Offer n) h)
-  rank_pos y (KeepForOneself n) h = omega (arith, mid_pos (KeepForOneself n) h)
-  rank_pos y (GiveBack n) h = omega (arith, mid_pos (GiveBack n) h)
   rank_pos y (CloseTray v) h = omega arith
   rank_pos y (WriteData v) h = omega arith
   rank_pos y (CountKid v k) h = omega (arith, position_low k)
   rank_pos y (LinkKid v k w) h = omega (arith, position_low k)
+  rank_pos y c h = omega (arith, mid_pos c h)
 
   pub mid_served : (c : Place) → Mid c → served c + 9 ≤ r
   mid_served c (has v e h) = h
@@ -264,7 +188,6 @@ module _ {D : Type 0} (s : Store D) (p x : ℕ) (y : Plan D) where
   next_ReadTray (Holding v) e = takes v (upd_same s.run p (Works (Makes y) (CloseTray v)))
 
   next_place : (c : Place) → seeks c ≡ true → Next c (place_step c (Makes y) s p x)
-  next_place OpenTray h = absurd (true≢false (sym h))
   next_place ReadTray h = next_ReadTray (s.tray p) refl
   next_place LookForNode h = cond_both (eqb (s.count x) 0) (set_run s p (Works (Makes y) (LockNode x))) (set_run s p (Works (Makes y) ReadTray)) (Next LookForNode) (λ _. goes_to LookForNode (LockNode x) s refl refl (omega arith) (omega arith) (λ z. omega arith)) (λ _. goes_to LookForNode ReadTray s refl refl (omega arith) (omega arith) (λ z. omega arith))
   next_place (LockNode n) h = cond_both (eqb (s.lock n) 0) (set_run (set_lock s n p) p (Works (Makes y) (Recheck n))) (set_run s p (Works (Makes y) ReadTray)) (Next (LockNode n)) (λ _. goes_to (LockNode n) (Recheck n) (set_lock s n p) refl refl (omega arith) (omega arith) (λ z. omega arith)) (λ _. goes_to (LockNode n) ReadTray s refl refl (omega arith) (omega arith) (λ z. omega arith))
@@ -286,10 +209,7 @@ module _ {D : Type 0} (s : Store D) (p x : ℕ) (y : Plan D) where
       (λ _. stays (KeepForOneself n) (upd_same s.run p (Works (Makes y) (KeepForOneself n))) refl refl (λ v _. omega arith) (λ _. omega arith) (λ _ _. eqb-false x p xp)))
   next_place (KeepForOneself n) h = cond_both (is_open (s.tray p)) (set_run (set_tray s p (Holding n)) p (Works (Makes y) (CloseTray n))) (set_run s p (Works (Makes y) (GiveBack n))) (Next (KeepForOneself n)) (λ _. takes n (upd_same s.run p (Works (Makes y) (CloseTray n)))) (λ _. goes_to (KeepForOneself n) (GiveBack n) s refl refl (omega arith) (omega arith) (λ z. omega arith))
   next_place (GiveBack n) h = goes_to (GiveBack n) ReadTray (set_count s n 0) refl refl (omega arith) (omega arith) (λ z. omega arith)
-  next_place (CloseTray v) h = absurd (true≢false (sym h))
-  next_place (WriteData v) h = absurd (true≢false (sym h))
-  next_place (CountKid v k) h = absurd (true≢false (sym h))
-  next_place (LinkKid v k w) h = absurd (true≢false (sym h))
+  next_place _ h = absurd (true≢false (sym h))
 
 pub LockNode_waits : {D : Type 0} (N : ℕ) (due : ℕ → ℕ → ℕ) (t : Store D) (p n : ℕ) (j : Job D) → 1 ≤ p → p ≤ N → t.run p ≡ Works j (LockNode n) → 1 ≤ togo N due t.count t.run p
 unfolding togo
@@ -336,14 +256,9 @@ module _ {D : Type 0} (N M S P : ℕ) (s : Store D) (I : Inv N M s) (p : ℕ) (a
 start_bound : (S T Q d r : ℕ) → T ≤ Q → d < suc S → 18 * (suc S * (Q + 1)) + 10 ≤ suc r → 18 * (suc S * T + d) + 18 + 9 ≤ r
 start_bound S T Q d r h k b = omega (arith, mul-le-mul_left (suc S) h)
 
-sum_const : (n P : ℕ) → sum_to n (λ q. P) ≤ n * P
-unfolding sum_to
-sum_const zero P = omega arith
-sum_const (suc n) P = let u = sum_const n P in omega arith
-
 pub togo_low : {D : Type 0} (N P : ℕ) (due : ℕ → ℕ → ℕ) (t : Store D) (p : ℕ) → ((k : ℕ) → 1 ≤ k → k ≤ N → due k p < P) → togo N due t.count t.run p ≤ N * P
 unfolding togo
-togo_low N P due t p h = let u = sum_le N (λ q. due q p + waits t.count (t.run q)) (λ q. P) (λ k a b. (let v = h k a b in let w = waits_one t.count (t.run k) in omega arith)) in let w = sum_const N P in omega arith
+togo_low N P due t p h = sum_at_most P N (λ q. due q p + waits t.count (t.run q)) (λ k a b. (let v = h k a b in let w = waits_one t.count (t.run k) in omega arith))
 
 -- the first step, and the last ones
 module _ {D : Type 0} (N M S P : ℕ) (p : ℕ) (y : Plan D) (due : ℕ → ℕ → ℕ) (nd : ℕ → ℕ) (r : ℕ) where
@@ -354,19 +269,14 @@ module _ {D : Type 0} (N M S P : ℕ) (p : ℕ) (y : Plan D) (due : ℕ → ℕ 
   unfolding RankedNow
   ranked_now u ρ h = subst (RunRank N M S P (set_run u p ρ) due nd p r) (sym (upd_same u.run p ρ)) h
 
-  rank_give_third : (u : Store D) (v : ℕ) → 2 ≤ r → RankedNow (give_third y u p v)
-  rank_give_third u v h = cond_both (eqb y.kids.third 0) (made y u p v) (set_run u p (Works (Makes y) (CountKid v Third))) RankedNow (λ _. ranked_now (set_slot u p y.slot v) Idle tt) (λ _. ranked_now u (Works (Makes y) (CountKid v Third)) (omega arith))
-
-  rank_give_second : (u : Store D) (v : ℕ) → 4 ≤ r → RankedNow (give_second y u p v)
-  rank_give_second u v h = cond_both (eqb y.kids.second 0) (give_third y u p v) (set_run u p (Works (Makes y) (CountKid v Second))) RankedNow (λ _. rank_give_third u v (omega arith)) (λ _. ranked_now u (Works (Makes y) (CountKid v Second)) (omega arith))
+  more_kids : (u : Store D) (v : ℕ) (k : Kid) → 8 - 2 * position k ≤ r → kid_at y.kids k ≢ 0 → RankedNow (set_run u p (Works (Makes y) (CountKid v k)))
+  more_kids u v k h z = ranked_now u (Works (Makes y) (CountKid v k)) (omega (arith, h, position_low k))
 
   rank_give_first : (u : Store D) (v : ℕ) → 6 ≤ r → RankedNow (give_first y u p v)
-  rank_give_first u v h = cond_both (eqb y.kids.first 0) (give_second y u p v) (set_run u p (Works (Makes y) (CountKid v First))) RankedNow (λ _. rank_give_second u v (omega arith)) (λ _. ranked_now u (Works (Makes y) (CountKid v First)) (omega arith))
+  rank_give_first u v h = first_by RankedNow y u p v (λ n. 8 - 2 * n ≤ r) (λ _. ranked_now (set_slot u p y.slot v) Idle tt) (more_kids u v) (λ k h _. omega arith) (omega arith)
 
   rank_after : (u : Store D) (v : ℕ) (k : Kid) → 7 - 2 * position k ≤ suc r → RankedNow (give_after y u p v k)
-  rank_after u v First h = rank_give_second u v (omega arith)
-  rank_after u v Second h = rank_give_third u v (omega arith)
-  rank_after u v Third h = ranked_now (set_slot u p y.slot v) Idle tt
+  rank_after u v k h = after_by RankedNow y u p v (λ n. 8 - 2 * n ≤ r) (λ _. ranked_now (set_slot u p y.slot v) Idle tt) (more_kids u v) (λ k h _. omega arith) k (omega arith)
 
   rank_OpenTray : (s : Store D) → ((k : ℕ) → 1 ≤ k → k ≤ N → due k p < P) → ((n : ℕ) → 1 ≤ n → n ≤ M → nd n < suc S) → ((n : ℕ) × Free M (set_run (set_tray s p Open) p (Works (Makes y) ReadTray)) n) → 18 * (suc S * (N * P + 1)) + 10 ≤ suc r
       → RankedNow (set_run (set_tray s p Open) p (Works (Makes y) ReadTray))
@@ -397,20 +307,9 @@ module _ {D : Type 0} (N M S P : ℕ) (s : Store D) (I : Inv N M s) (p : ℕ) (a
   pub own_turn : (c : Place) (due due' : ℕ → ℕ → ℕ) → s.run p ≡ Works (Makes y) c → OwnTurn c due due' → PlaceRank N M S P s due nd p (suc r) c → Goal c due'
   unfolding RankedNow
   own_turn OpenTray due due' e T h = rank_OpenTray N M S P p y due' nd' r s T.near T.low' T.free h
-  own_turn ReadTray due due' e T h = mid_turn ReadTray due due' e T (λ z. omega arith) refl h
   own_turn LookForNode due due' e T h = subst (Goal LookForNode) (sym (T.same (λ z. omega arith))) (own_LookForNode N M S P s I p a b x y nd nd' r e due (T.asked refl) T.runs (next_place s p x y LookForNode refl) h)
-  own_turn (LockNode n) due due' e T h = mid_turn (LockNode n) due due' e T (λ z. omega arith) refl h
-  own_turn (Recheck n) due due' e T h = mid_turn (Recheck n) due due' e T (λ z. omega arith) refl h
-  own_turn (UnlockAndGoBack n) due due' e T h = mid_turn (UnlockAndGoBack n) due due' e T (λ z. omega arith) refl h
-  own_turn (ReadKid n k) due due' e T h = mid_turn (ReadKid n k) due due' e T (λ z. omega arith) refl h
-  own_turn (ClearKid n k w) due due' e T h = mid_turn (ClearKid n k w) due due' e T (λ z. omega arith) refl h
-  own_turn (UncountKid n k w) due due' e T h = mid_turn (UncountKid n k w) due due' e T (λ z. omega arith) refl h
-  own_turn (Claim n) due due' e T h = mid_turn (Claim n) due due' e T (λ z. omega arith) refl h
-  own_turn (Unlock n) due due' e T h = mid_turn (Unlock n) due due' e T (λ z. omega arith) refl h
-  own_turn (Offer n) due due' e T h = mid_turn (Offer n) due due' e T (λ z. omega arith) refl h
-  own_turn (KeepForOneself n) due due' e T h = mid_turn (KeepForOneself n) due due' e T (λ z. omega arith) refl h
-  own_turn (GiveBack n) due due' e T h = mid_turn (GiveBack n) due due' e T (λ z. omega arith) refl h
   own_turn (CloseTray v) due due' e T h = ranked_now N M S P p y due' nd' r (set_tray s p Closed) (Works (Makes y) (WriteData v)) (omega arith)
   own_turn (WriteData v) due due' e T h = rank_give_first N M S P p y due' nd' r s v (omega arith)
   own_turn (CountKid v k) due due' e T h = let w = s.slot p (kid_at y.kids k) in ranked_now N M S P p y due' nd' r (set_count s w (s.count w + 1)) (Works (Makes y) (LinkKid v k w)) (omega (arith, position_low k))
   own_turn (LinkKid v k w) due due' e T h = rank_after N M S P p y due' nd' r (set_kid s v k w) v k h
+  own_turn c due due' e T h = mid_turn c due due' e T (λ z. omega arith) refl h

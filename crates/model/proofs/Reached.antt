@@ -4,10 +4,10 @@ use Rattle.std.proofs.lemmas.Bool.{cases_eq, cases_lt}
 use Rattle.model.specs.Fun.{upd, sum_to, is}
 use Rattle.model.specs.Types.{Kid, First, Second, Third, Kids, Closed, Idle}
 use Rattle.model.specs.State.{position, kid_at, put_kid, Store}
-use Rattle.model.specs.Reach.{Reach, by_slot, by_box, by_kid, Reached, Free, Below, kid, deeper, Acyclic}
+use Rattle.model.specs.Reach.{by_slot, by_box, by_kid, Reached, Free, Below, kid, deeper, Acyclic}
 use Rattle.model.specs.Inv.{none, reliance, tray_node, occ, carry, in_slots, in_boxes, in_trays, carried, in_kids, Inv}
 use Rattle.model.specs.Sound.{Ranked}
-use Rattle.model.proofs.Sums.{upd_same, upd_other, is_other, is_cases, sum_to_at, sum_to_some}
+use Rattle.model.proofs.Sums.{upd_same, upd_other, is_other, is_cases, sum_to_at, sum_to_some, sum_to_none}
 use Rattle.model.proofs.Refs.{carried_at, carry_one, slots_at, boxes_at, kids_at}
 use Rattle.model.proofs.Make.{position_same, put_same, put_other, carry_is}
 
@@ -48,20 +48,6 @@ module _ {D : Type 0} (N M : ℕ) (s : Store D) (I : Inv N M s) where
       let h : s.count (reliance (s.run q)).one ≡ 1 = (I.parties q a b).0.one_is (let p = g.pos in omega arith) in
       let k : s.count n ≡ 1 = subst (λ m. s.count m ≡ 1) e h in
       omega (arith, carried_at N M n s.run q a b, carry_one N M n (reliance (s.run q)) e)
-
--- a kid of a node out of reach is written: the same nodes are reached
-module _ (N : ℕ) (f : ℕ → ℕ → ℕ) (b : ℕ → ℕ) (kids : ℕ → Kids) (v : ℕ) (x : Kids) (out : Reach N f b kids v → ⊥) where
-  pub reach_kept : {n : ℕ} → Reach N f b kids n → Reach N f b (upd kids v x) n
-  reach_kept (by_slot q i h1 h2 h3 h4 e z) = by_slot q i h1 h2 h3 h4 e z
-  reach_kept (by_box q h1 h2 e z) = by_box q h1 h2 e z
-  reach_kept (by_kid m k r e z) = by_kid m k (reach_kept r) (ap (λ t. kid_at t k) (upd_other kids v m x (λ d. out (subst (Reach N f b kids) d r))) ∙ e) z
-
-  pub reach_back : {n : ℕ} → Reach N f b (upd kids v x) n → Reach N f b kids n
-  reach_back (by_slot q i h1 h2 h3 h4 e z) = by_slot q i h1 h2 h3 h4 e z
-  reach_back (by_box q h1 h2 e z) = by_box q h1 h2 e z
-  reach_back (by_kid m k r e z) =
-      let o = reach_back r in
-      by_kid m k o (sym (ap (λ t. kid_at t k) (upd_other kids v m x (λ d. out (subst (Reach N f b kids) d o)))) ∙ e) z
 
 -- heights
 pub below_falls : (kids : ℕ → Kids) (R : Ranked kids) {m n : ℕ} → Below kids m n → R.rank n < R.rank m
@@ -123,17 +109,14 @@ pub record Resting {D : Type 0} (N : ℕ) (s : Store D) : Type 0 where
   pub idle_all : (q : ℕ) → 1 ≤ q → q ≤ N → s.run q ≡ Idle
   pub closed_all : (q : ℕ) → 1 ≤ q → q ≤ N → s.tray q ≡ Closed
 
-pub zeros : (n : ℕ) (f : ℕ → ℕ) → ((k : ℕ) → 1 ≤ k → k ≤ n → f k ≡ 0) → sum_to n f ≡ 0
-zeros n f h = elim (cases_eq (sum_to n f) 0) [ inl e ↦ e | inr z ↦ (let r = sum_to_some n f (omega arith) in let g = h r.0 r.1 r.2 in let k = r.3 in absurd (omega arith)) ]
-
 module _ {D : Type 0} (N M : ℕ) (s : Store D) (I : Inv N M s) (Q : Resting N s) (R : Ranked s.kids) where
   resting_carried : (n : ℕ) → 1 ≤ n → carried N s.run n ≡ 0
   unfolding carried
-  resting_carried n h = zeros N (λ q. carry (reliance (s.run q)) n) (λ q a b. ap (λ r. carry (reliance r) n) (Q.idle_all q a b) ∙ carry_is none n ∙ (let z = is_other 0 n (omega arith) in omega arith))
+  resting_carried n h = sum_to_none N (λ q. carry (reliance (s.run q)) n) (λ q a b. ap (λ r. carry (reliance r) n) (Q.idle_all q a b) ∙ carry_is none n ∙ (let z = is_other 0 n (omega arith) in omega arith))
 
   resting_trays : (n : ℕ) → 1 ≤ n → in_trays N s.tray n ≡ 0
   unfolding in_trays
-  resting_trays n h = zeros N (λ q. is (tray_node (s.tray q)) n) (λ q a b. ap (λ t. is (tray_node t) n) (Q.closed_all q a b) ∙ is_other 0 n (omega arith))
+  resting_trays n h = sum_to_none N (λ q. is (tray_node (s.tray q)) n) (λ q a b. ap (λ t. is (tray_node t) n) (Q.closed_all q a b) ∙ is_other 0 n (omega arith))
 
   resting_unlocked : (n : ℕ) → 1 ≤ n → s.lock n ≡ 0
   resting_unlocked n h = elim (cases_eq (s.lock n) 0) [
@@ -144,12 +127,12 @@ module _ {D : Type 0} (N M : ℕ) (s : Store D) (I : Inv N M s) (Q : Resting N s
 
   slots_none : (n : ℕ) → n ≢ 0 → (Reached N s n → ⊥) → in_slots N s.slot n ≡ 0
   unfolding in_slots
-  slots_none n z out = zeros N (λ q. sum_to 8 (λ i. is (s.slot q i) n)) (λ q a b. zeros 8 (λ i. is (s.slot q i) n) (λ i c d.
+  slots_none n z out = sum_to_none N (λ q. sum_to 8 (λ i. is (s.slot q i) n)) (λ q a b. sum_to_none 8 (λ i. is (s.slot q i) n) (λ i c d.
       elim (is_cases (s.slot q i) n) [ inl e ↦ absurd (out (by_slot q i a b c d e.1 z)) | inr e ↦ e.0 ]))
 
   boxes_none : (n : ℕ) → n ≢ 0 → (Reached N s n → ⊥) → in_boxes N s.inbox n ≡ 0
   unfolding in_boxes
-  boxes_none n z out = zeros N (λ q. is (s.inbox q) n) (λ q a b. elim (is_cases (s.inbox q) n) [ inl e ↦ absurd (out (by_box q a b e.1 z)) | inr e ↦ e.0 ])
+  boxes_none n z out = sum_to_none N (λ q. is (s.inbox q) n) (λ q a b. elim (is_cases (s.inbox q) n) [ inl e ↦ absurd (out (by_box q a b e.1 z)) | inr e ↦ e.0 ])
 
   kid_with : (ks : Kids) (n : ℕ) → 1 ≤ occ ks n → (k : Kid) × (kid_at ks k ≡ n)
   unfolding occ

@@ -2,9 +2,9 @@
 use Rattle.std.proofs.Common.{◌≡◌, ℕ, Bool, true, false, not, ◌||◌, ltb, List, [], ◌∷◌, is_some, Some, None, sym, refl, ap, ◌∙◌, true≢false}
 use Rattle.refusals.specs.declared.Refusal.{Refusal}
 use Rattle.refusals.specs.declared.Refusal.TheVariants.{NoSuchParty, ShortList, Busy, NothingToTurn}
-use Rattle.model.specs.Types.{Running}
+use Rattle.model.specs.Types.{Lengths, Running}
 use Rattle.model.specs.Steps.{between}
-use Rattle.model.specs.Checks.{Lengths, first_fault, is_idle, is_walking, turn_fault, walk_turn_fault}
+use Rattle.model.specs.Checks.{first_fault, is_idle, is_walking, turn_fault, walk_turn_fault}
 use Rattle.model.specs.Runs.{ends_call}
 
 -- none of these refusals ends a call

@@ -1,10 +1,10 @@
 -- The plain store follows every Begin and every Turn, so every run.
 use Rattle.std.proofs.Common.{◌≡◌, ℕ, false, cond, [], ◌∷◌, sym, subst}
 use Rattle.refusals.specs.declared.Refusal.{Refusal}
-use Rattle.model.specs.Types.{Outcome, Refused}
+use Rattle.model.specs.Types.{Event, Err, Outcome}
 use Rattle.model.specs.Setting.{Setting}
 use Rattle.model.specs.Plain.{Plain, Ask, PlainRun, ends}
-use Rattle.model.specs.Runs.{System, Event, Moves, begin_refused, call_begun, walk_begun, turn_refused, turn, walk_turn_refused, walk_turn, Log, Run, still, more, ends_call, is_end, history}
+use Rattle.model.specs.Runs.{System, Moves, begin_refused, call_begun, walk_begun, turn_refused, turn, walk_turn_refused, walk_turn, Log, Run, still, more, ends_call, is_end, history}
 use Rattle.model.specs.Opened.{Opened}
 use Rattle.model.specs.Law.{RunsAsPlain}
 use Rattle.model.proofs.Accepted.{turn_passed, turn_walks_not, walk_turn_passed, walk_turn_walks}
@@ -15,10 +15,10 @@ use Rattle.model.proofs.TurnsPlainly.{turn_plainly, walk_turn_plainly}
 
 module _ {D W A B : Type 0} (X : Setting D W A B) where
   -- a refused Turn stands nowhere and changes nothing
-  refused_turn : (F G : System D W A B) (t : Plain D) (asked : ℕ → Ask D) (k : Ask D) → Opened X F t asked → (e : Refusal) (o : Outcome D W) → ends_call e ≡ false → o ≡ Refused e → G ≡ F
+  refused_turn : (F G : System D W A B) (t : Plain D) (asked : ℕ → Ask D) (k : Ask D) → Opened X F t asked → (e : Refusal) (o : Outcome D W) → ends_call e ≡ false → o ≡ Err e → G ≡ F
       → (u : Plain D) × PlainRun X t (cond (is_end o) ((k, o) ∷ []) []) u × Opened X G u asked
   refused_turn F G t asked k O e o h eo eG =
-      (t, subst (λ v. PlainRun X t (cond (is_end v) ((k, v) ∷ []) []) t) (sym eo) (subst (λ v. PlainRun X t (cond v ((k, Refused e) ∷ []) []) t) (sym h) ends), subst (λ H. Opened X H t asked) (sym eG) O)
+      (t, subst (λ v. PlainRun X t (cond (is_end v) ((k, v) ∷ []) []) t) (sym eo) (subst (λ v. PlainRun X t (cond v ((k, Err e) ∷ []) []) t) (sym h) ends), subst (λ H. Opened X H t asked) (sym eG) O)
 
   -- one Begin or Turn
   pub moves_plainly : {F G : System D W A B} (t : Plain D) (asked : ℕ → Ask D) {e : Event D} {o : Outcome D W} → Opened X F t asked → Moves X F e o G → After X t asked e o G

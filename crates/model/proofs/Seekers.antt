@@ -1,7 +1,7 @@
 -- While a Make seeks a node its tray is not closed: what every Begin and Turn keeps.
 use Rattle.std.proofs.Common.{◌≡◌, ℕ, ◌+◌, ◌-◌, ◌≤◌, true, false, cond, eqb, ◌≢◌, [], Some, None, Option, sym, refl, ap, ◌∙◌, subst, inl, inr, true≢false, arith}
 use Rattle.std.proofs.lemmas.Bool.{cases_eq, cond_both, eqb-false}
-use Rattle.model.specs.Types.{Kid, First, Second, Third, Kids, Tray, Closed, Open, Holding, Place, OpenTray, ReadTray, LookForNode, LockNode, Recheck, UnlockAndGoBack, ReadKid, ClearKid, UncountKid, Claim, Unlock, Offer, KeepForOneself, GiveBack, CloseTray, WriteData, CountKid, LinkKid, Plan, Job, Makes, Sweeps, Reading, ReadNothing, ReadData, ReadFirst, ReadSecond, Running, Idle, Reads, GoesDown, Keeps, Drops, Hands, Fetches, TakesOut, Works, WalkReads, WalkGoesDown, Call, Enter, Up, Leave, Read, Down, Keep, Drop, Hand, Fetch, Make, Sweep, AsksCall, AsksWalk, Outcome, Told, Tells, Settles, Decision, Situation}
+use Rattle.model.specs.Types.{Event, Kid, First, Kids, Tray, Closed, Open, Holding, Place, OpenTray, ReadTray, LookForNode, LockNode, Recheck, UnlockAndGoBack, ReadKid, ClearKid, UncountKid, Claim, Unlock, Offer, KeepForOneself, GiveBack, CloseTray, WriteData, CountKid, LinkKid, Plan, Job, Makes, Sweeps, Reading, ReadNothing, ReadData, ReadFirst, ReadSecond, Running, Idle, Reads, GoesDown, Keeps, Drops, Hands, Fetches, TakesOut, Works, WalkReads, WalkGoesDown, Call, Read, Down, Keep, Drop, Hand, Fetch, Make, Sweep, AsksCall, AsksWalk, Outcome, Told, Tells, Settles, Decision, Situation}
 use Rattle.model.specs.State.{kid_at, Trail, no_trail, along, shorter, Store, new_store, set_count, set_lock, set_kid, set_inbox, set_tray, set_slot, set_trail, set_run, last}
 use Rattle.model.specs.Steps.{after_kid, decision, stepped}
 use Rattle.model.specs.Checks.{is_idle}
@@ -9,9 +9,10 @@ use Rattle.model.specs.Begins.{kid_of, started, started_walk}
 use Rattle.model.specs.Sound.{opens_at, opens, SeekersOpen}
 use Rattle.model.specs.Walks.{Notes, resumes, first_unmarked, gone_up, settled_store}
 use Rattle.model.specs.Setting.{Setting}
-use Rattle.model.specs.Runs.{System, Event, Steps, moved_as, Moves, begin_refused, call_begun, walk_begun, turn_refused, turn, walk_turn_refused, walk_turn}
+use Rattle.model.specs.Runs.{System, Steps, moved_as, Moves, begin_refused, call_begun, walk_begun, turn_refused, turn, walk_turn_refused, walk_turn}
 use Rattle.model.specs.Existing.{CanExist, new, moved}
-use Rattle.model.proofs.Explicit.{is_open, back, made, give_first, give_second, give_third, give_after, at_ReadTray, own_tray, place_step, read_on_at, down_to, turn_at}
+use Rattle.model.proofs.Gives.{first_any, after_any}
+use Rattle.model.proofs.Explicit.{is_open, back, give_first, give_after, at_ReadTray, own_tray, place_step, read_on_at, down_to, turn_at}
 use Rattle.model.proofs.Sums.{upd_same, upd_other}
 use Rattle.model.proofs.Begins.{accepted_idle}
 use Rattle.model.proofs.Accepted.{turn_passed, walk_turn_passed}
@@ -58,19 +59,11 @@ module _ {D : Type 0} (s : Store D) (p x : ℕ) (O : opens (s.run p) ≡ true �
       (λ _. open_run (set_tray s p (Holding n)) (Works j (CloseTray n)) (holding_not_closed n (upd_same s.tray p (Holding n))))
       (λ _. seek_to j c e h s (GiveBack n) refl)
 
-  shut_third : (y : Plan D) (u : Store D) (v : ℕ) → Ajar (give_third y u p v)
-  shut_third y u v = cond_both (eqb y.kids.third 0) (made y u p v) (set_run u p (Works (Makes y) (CountKid v Third))) Ajar (λ _. shut_run (set_slot u p y.slot v) Idle refl) (λ _. shut_run u (Works (Makes y) (CountKid v Third)) refl)
-
-  shut_second : (y : Plan D) (u : Store D) (v : ℕ) → Ajar (give_second y u p v)
-  shut_second y u v = cond_both (eqb y.kids.second 0) (give_third y u p v) (set_run u p (Works (Makes y) (CountKid v Second))) Ajar (λ _. shut_third y u v) (λ _. shut_run u (Works (Makes y) (CountKid v Second)) refl)
-
   shut_first : (y : Plan D) (u : Store D) (v : ℕ) → Ajar (give_first y u p v)
-  shut_first y u v = cond_both (eqb y.kids.first 0) (give_second y u p v) (set_run u p (Works (Makes y) (CountKid v First))) Ajar (λ _. shut_second y u v) (λ _. shut_run u (Works (Makes y) (CountKid v First)) refl)
+  shut_first y u v = first_any Ajar y u p v (shut_run (set_slot u p y.slot v) Idle refl) (λ k. shut_run u (Works (Makes y) (CountKid v k)) refl)
 
   shut_after : (y : Plan D) (u : Store D) (v : ℕ) (k : Kid) → Ajar (give_after y u p v k)
-  shut_after y u v First = shut_second y u v
-  shut_after y u v Second = shut_third y u v
-  shut_after y u v Third = shut_run (set_slot u p y.slot v) Idle refl
+  shut_after y u v = after_any Ajar y u p v (shut_run (set_slot u p y.slot v) Idle refl) (λ k. shut_run u (Works (Makes y) (CountKid v k)) refl)
 
   own_ajar : (c : Place) (j : Job D) → s.run p ≡ Works j c → Ajar (place_step c j s p x)
   own_ajar OpenTray j e = open_run (set_tray s p Open) (Works j ReadTray) (open_not_closed (upd_same s.tray p Open))
@@ -98,11 +91,9 @@ module _ {D : Type 0} (s : Store D) (p x : ℕ) (O : opens (s.run p) ≡ true �
   own_ajar (CloseTray v) (Makes y) e = shut_run (set_tray s p Closed) (Works (Makes y) (WriteData v)) refl
   own_ajar (CloseTray v) Sweeps e = shut_run (set_tray s p Closed) (Works Sweeps (WriteData v)) refl
   own_ajar (WriteData v) (Makes y) e = shut_first y s v
-  own_ajar (WriteData v) Sweeps e = O
   own_ajar (CountKid v k) (Makes y) e = let w = s.slot p (kid_at y.kids k) in shut_run (set_count s w (s.count w + 1)) (Works (Makes y) (LinkKid v k w)) refl
-  own_ajar (CountKid v k) Sweeps e = O
   own_ajar (LinkKid v k w) (Makes y) e = shut_after y (set_kid s v k w) v k
-  own_ajar (LinkKid v k w) Sweeps e = O
+  own_ajar _ Sweeps e = O
 
 -- a call that is no Make and no Sweep does not become one by a step
 module _ {D : Type 0} (s : Store D) (q : ℕ) where
@@ -141,9 +132,6 @@ module _ {D : Type 0} (s : Store D) (q : ℕ) where
       to None = runs_shut (set_trail s q (shorter (s.trail q))) (resumes t (shorter (s.trail q))) (resumes_shut t (shorter (s.trail q)))
 
   started_shut : s.run q ≡ Idle → (c : Call D) → opens ((started c s q).run q) ≡ false
-  started_shut e (Enter i) = ap opens e
-  started_shut e Up = ap opens e
-  started_shut e Leave = ap opens e
   started_shut e Read = runs_shut s (Reads ReadNothing) refl
   started_shut e (Down k) = runs_shut s (GoesDown (kid_of k)) refl
   started_shut e (Keep i) = runs_shut s (Keeps i) refl
@@ -152,6 +140,7 @@ module _ {D : Type 0} (s : Store D) (q : ℕ) where
   started_shut e (Fetch i) = runs_shut s (Fetches i) refl
   started_shut e (Make plan) = runs_shut s (Works (Makes plan) OpenTray) refl
   started_shut e Sweep = runs_shut s (Works Sweeps LookForNode) refl
+  started_shut e _ = ap opens e
 
   -- a step that takes nothing and offers nothing
   calm_open : (N : ℕ) (t : Store D) → Calm s t q → opens (t.run q) ≡ false → SeekersOpen N s → SeekersOpen N t
@@ -185,7 +174,7 @@ module _ {D W A B : Type 0} (X : Setting D W A B) where
 
       told_shut : (d : Decision D W) (t : Told D W) → opens ((stepped X.parties X.nodes F.store F.info q T.pick d).run q) ≡ false → opens ((moved_as X F q T.pick d t).store.run q) ≡ false
       told_shut d (Tells u) h = h
-      told_shut d (Settles t y ks) h = settled_shut F.store q X.worth X.blank (F.notes q) t ks
+      told_shut d (Settles n) h = settled_shut F.store q X.worth X.blank (F.notes q) n.situation n.kids
 
       shut : NoJob (F.store.run q) → opens (G.store.run q) ≡ false
       shut h =

@@ -1,11 +1,14 @@
--- Orders of a small store, whose dues come down by one with each pick of the party.
-use Rattle.std.proofs.Common.{◌≡◌, ℕ, ◌-◌, ◌<◌, ◌≤◌, true, false, ltb, sym, refl, ap, arith}
+-- Orders of a small store, whose dues come down by one with each pick of the party, and turns that ask neither.
+use Rattle.std.proofs.Common.{◌≡◌, ℕ, ◌-◌, ◌<◌, ◌≤◌, true, false, None, ltb, subst, sym, refl, ap, arith}
 use Rattle.std.proofs.lemmas.Bool.{cond_both, cond-false, le-ltb, ltb-false, true≢false}
 use Rattle.orders.specs.Limits.{IsParty}
 use Rattle.orders.specs.Meaning.{IsNumber}
 use Rattle.model.specs.Fun.{upd}
-use Rattle.model.specs.Runs.{System, Asks}
-use Rattle.model.specs.SmallStore.{at_most99, falling}
+use Rattle.model.specs.Types.{Turns, Outcome}
+use Rattle.model.specs.State.{Store}
+use Rattle.model.specs.Checks.{turn_fault}
+use Rattle.model.specs.Runs.{System, Asks, Moves, turn, moved, asks_nodes, asks_parties}
+use Rattle.model.specs.SmallStore.{at_most99, falling, small, long}
 use Rattle.model.proofs.Sums.{upd_same, upd_other}
 use Rattle.model.proofs.MakesEnd.{DuesBelowSpan}
 
@@ -40,3 +43,19 @@ picks_one m o p x is_party some few is =
 
 pub rests : (m : ℕ) (o : ℕ → ℕ) (p x : ℕ) → Asks (falling m) false o o p x
 rests m o p x = record { picks = λ e. absurd (true≢false (sym e)); rests = λ _. refl }
+
+-- after a turn of p that leaves this store, and asks no order and writes no data
+abbrev pub after : Small → ℕ → Store ℕ → Small
+after f p s = record f { store = s; notes = upd f.notes p (f.notes p) }
+
+pub quiet_turn : (f : Small) (p : ℕ) {s : Store ℕ} {o : Outcome ℕ ℕ} → turn_fault 2 4 p long (f.store.run p) ≡ None → moved small f p 0 ≡ record { store = s; info = f.info; notes = f.notes p; outcome = o }
+    → asks_nodes (f.store.run p) ≡ false → asks_parties (f.store.run p) ≡ false → Moves small f (Turns p long) o (after f p s)
+quiet_turn f p fine is n q = turn fine (record {
+  pick = 0;
+  store_is = sym (ap (λ m. m.store) is);
+  info_is = sym (ap (λ m. m.info) is);
+  notes_are = ap (upd f.notes p) (sym (ap (λ m. m.notes) is));
+  node_picks = subst (λ b. Asks (falling 4) b f.node_order f.node_order p 0) (sym n) (rests 4 f.node_order p 0);
+  party_picks = subst (λ b. Asks (falling 2) b f.party_order f.party_order p 0) (sym q) (rests 2 f.party_order p 0);
+  tells = sym (ap (λ m. m.outcome) is);
+})

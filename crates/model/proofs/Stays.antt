@@ -2,13 +2,14 @@
 use Rattle.std.proofs.Common.{◌≡◌, ℕ, ◌+◌, ◌-◌, ◌≤◌, true, false, cond, eqb, ◌≢◌, ◌⊎◌, sym, refl, ap, ◌∙◌, subst, inl, inr, true≢false, arith}
 use Rattle.std.proofs.lemmas.Bool.{cases_eq, cases_lt, cond_both}
 use Rattle.model.specs.Fun.{upd, is}
-use Rattle.model.specs.Types.{Kid, First, Second, Third, Tray, Closed, Open, Holding, Place, OpenTray, ReadTray, LookForNode, LockNode, Recheck, UnlockAndGoBack, ReadKid, ClearKid, UncountKid, Claim, Unlock, Offer, KeepForOneself, GiveBack, CloseTray, WriteData, CountKid, LinkKid, Plan, Job, Makes, Sweeps, ReadNothing, ReadData, ReadFirst, ReadSecond, Running, Idle, Reads, GoesDown, Keeps, Drops, Hands, Fetches, TakesOut, Works, WalkReads, WalkGoesDown}
+use Rattle.model.specs.Types.{Kid, First, Tray, Closed, Open, Holding, Place, OpenTray, ReadTray, LookForNode, LockNode, Recheck, UnlockAndGoBack, ReadKid, ClearKid, UncountKid, Claim, Unlock, Offer, KeepForOneself, GiveBack, CloseTray, WriteData, CountKid, LinkKid, Plan, Job, Makes, Sweeps, ReadNothing, ReadData, ReadFirst, ReadSecond, Running, Idle, Reads, GoesDown, Keeps, Drops, Hands, Fetches, TakesOut, Works, WalkReads, WalkGoesDown}
 use Rattle.model.specs.State.{kid_at, put_kid, Store, set_count, set_lock, set_kid, set_inbox, set_tray, set_slot, set_run, last}
 use Rattle.model.specs.Steps.{after_kid}
 use Rattle.model.specs.Reach.{Reached}
 use Rattle.model.specs.Inv.{reliance_at, reliance, needs_job, needs_of, carry, Good, Inv}
 use Rattle.model.specs.Sound.{Ranked, Outside, Into, on_trail}
-use Rattle.model.proofs.Explicit.{is_open, back, made, give_first, give_second, give_third, give_after, at_ReadTray, own_tray, place_step, turn_at}
+use Rattle.model.proofs.Gives.{first_any, after_any}
+use Rattle.model.proofs.Explicit.{is_open, back, made, give_first, give_after, at_ReadTray, own_tray, place_step, turn_at}
 use Rattle.model.proofs.Sums.{upd_same, upd_other, is_same}
 use Rattle.model.proofs.Refs.{carried_at, kids_at}
 use Rattle.model.proofs.Make.{good, carry_is}
@@ -16,17 +17,10 @@ use Rattle.model.proofs.Reached.{reached_not_empty, reached_not_one, rank_clear,
 
 -- a call that neither lengthens a trail nor walks
 abbrev pub Stands : {D : Type 0} → Running D → Type 0
-Stands Idle = Unit {0}
-Stands (Reads g) = Unit {0}
 Stands (GoesDown k) = ⊥
 Stands (WalkReads t g) = ⊥
 Stands (WalkGoesDown t k) = ⊥
-Stands (Works j c) = Unit {0}
-Stands (Keeps i) = Unit {0}
-Stands (Drops i) = Unit {0}
-Stands (Fetches i) = Unit {0}
-Stands (Hands i q) = Unit {0}
-Stands (TakesOut i v) = Unit {0}
+Stands _ = Unit {0}
 
 pub record Frame {D : Type 0} (N M : ℕ) (s t : Store D) (p : ℕ) : Type 0 where
   pub kept : (n : ℕ) → Reached N s n → (t.kids n ≡ s.kids n)
@@ -118,19 +112,11 @@ module _ {D : Type 0} (N M : ℕ) (s : Store D) (I : Inv N M s) (p : ℕ) (a : 1
     more_kids : (k : Kid) → Frame N M s (set_run t p (Works (Makes x) (CountKid v k))) p
     more_kids k = to t (Works (Makes x) (CountKid v k)) E calm i1
 
-    frame_third : Frame N M s (give_third x t p v) p
-    frame_third = cond_both (eqb x.kids.third 0) (made x t p v) (set_run t p (Works (Makes x) (CountKid v Third))) (λ u. Frame N M s u p) (λ _. end) (λ _. more_kids Third)
-
-    frame_second : Frame N M s (give_second x t p v) p
-    frame_second = cond_both (eqb x.kids.second 0) (give_third x t p v) (set_run t p (Works (Makes x) (CountKid v Second))) (λ u. Frame N M s u p) (λ _. frame_third) (λ _. more_kids Second)
-
     frame_first : Frame N M s (give_first x t p v) p
-    frame_first = cond_both (eqb x.kids.first 0) (give_second x t p v) (set_run t p (Works (Makes x) (CountKid v First))) (λ u. Frame N M s u p) (λ _. frame_second) (λ _. more_kids First)
+    frame_first = first_any (λ u. Frame N M s u p) x t p v end more_kids
 
     frame_after : (k : Kid) → Frame N M s (give_after x t p v k) p
-    frame_after First = frame_second
-    frame_after Second = frame_third
-    frame_after Third = end
+    frame_after = after_any (λ u. Frame N M s u p) x t p v end more_kids
 
   job_source : (j : Job D) → ((needs_job j).source ≡ 0) × (false ≡ true → on_trail (s.run p) ≡ true)
   job_source (Makes x) = calm
@@ -216,16 +202,14 @@ module _ {D : Type 0} (N M : ℕ) (s : Store D) (I : Inv N M s) (p : ℕ) (a : 1
   frame_place x (GiveBack n) j e = to (set_count s n 0) (back j) (near (set_count s n 0) refl refl refl refl) (back_source j) (back_into j (GiveBack n) e)
   frame_place x (CloseTray v) j e = to (set_tray s p Closed) (Works j (WriteData v)) (near (set_tray s p Closed) refl refl refl refl) (job_source j) (job_into j (CloseTray v) (WriteData v) e)
   frame_place x (WriteData v) (Makes y) e = frame_first y (WriteData v) e s v (near s refl refl refl refl)
-  frame_place x (WriteData v) Sweeps e = absurd (good N M s I p a b Sweeps (WriteData v) e).2.1
   frame_place x (CountKid v k) (Makes y) e =
       let w = s.slot p (kid_at y.kids k) in
       to (set_count s w (s.count w + 1)) (Works (Makes y) (LinkKid v k w)) (near (set_count s w (s.count w + 1)) refl refl refl refl) calm (subst Into e A)
-  frame_place x (CountKid v k) Sweeps e = absurd (good N M s I p a b Sweeps (CountKid v k) e).2.1
   frame_place x (LinkKid v k w) (Makes y) e =
       let g = good N M s I p a b (Makes y) (LinkKid v k w) e in
       frame_after y (LinkKid v k w) e (set_kid s v k w) v (near_kid v k w g.2.0.0 g.0.within (out_one (Makes y) (LinkKid v k w) v e refl)
       (λ o R. (let l = lone (Makes y) v k w e o in rank_give s.kids v k w l.1 l.0 R))) k
-  frame_place x (LinkKid v k w) Sweeps e = absurd (good N M s I p a b Sweeps (LinkKid v k w) e).2.1
+  frame_place x c Sweeps e = absurd (good N M s I p a b Sweeps c e).2.1
 
   frame_at : (info : ℕ → D) (x : ℕ) (r : Running D) → Stands r → s.run p ≡ r → Frame N M s (turn_at r s info p x) p
   frame_at info x Idle h e = record { kept = λ n r. refl; slots = λ q d. refl; own_slots = λ i z d. refl; trails = refl; runs = λ q d. refl; no_source = ap (λ f. (needs_of f).source) e; into = A; on_trail_before = λ h. h; ranked = λ o R. R; outside = λ o. o }
@@ -233,9 +217,6 @@ module _ {D : Type 0} (N M : ℕ) (s : Store D) (I : Inv N M s) (p : ℕ) (a : 1
   frame_at info x (Reads (ReadData d)) h e = quiet (Reads (ReadFirst d (s.kids (last s p)).first)) (refl, λ _. ap on_trail e) tt
   frame_at info x (Reads (ReadFirst d i)) h e = quiet (Reads (ReadSecond d i (s.kids (last s p)).second)) (refl, λ _. ap on_trail e) tt
   frame_at info x (Reads (ReadSecond d i j)) h e = quiet Idle calm tt
-  frame_at info x (GoesDown k) h e = absurd h
-  frame_at info x (WalkReads t g) h e = absurd h
-  frame_at info x (WalkGoesDown t k) h e = absurd h
   frame_at info x (Works j c) h e = frame_place x c j e
   frame_at info x (Keeps i) h e =
       let g : Good N M s p (Keeps i) = subst (Good N M s p) e (I.parties p a b) in
@@ -252,6 +233,7 @@ module _ {D : Type 0} (N M : ℕ) (s : Store D) (I : Inv N M s) (p : ℕ) (a : 1
       let g : Good N M s p (TakesOut i v) = subst (Good N M s p) e (I.parties p a b) in
       let i1 = g.2.0 in
       to_slot (set_inbox s p 0) i v (near (set_inbox s p 0) refl refl refl refl) (inl (g.1.into_is (omega arith)).1)
+  frame_at info x _ h e = absurd h
 
   pub turn_frame : (info : ℕ → D) (x : ℕ) → Stands (s.run p) → Frame N M s (turn_at (s.run p) s info p x) p
   turn_frame info x h = frame_at info x (s.run p) h refl

@@ -1,8 +1,8 @@
 -- The step as it is specified is the step place by place; so every step keeps the store sound, whatever is picked.
-use Rattle.std.proofs.Common.{◌≡◌, ℕ, ◌≤◌, Bool, true, false, cond, eqb, leb, Some, None, Option, sym, refl, ap, ◌∙◌, subst, inl, inr, true≢false}
-use Rattle.std.proofs.lemmas.Bool.{cases_Bool, cond-true, cond-false, and_parts, and_from, leb-true, le-leb, ne_eqb}
+use Rattle.std.proofs.Common.{◌≡◌, ℕ, ◌≤◌, Bool, true, false, cond, eqb, Some, None, Option, sym, refl, ap, ◌∙◌, subst, inl, inr, true≢false}
+use Rattle.std.proofs.lemmas.Bool.{cases_Bool, cond-true, cond-false, ne_eqb}
 use Rattle.refusals.specs.declared.Refusal.TheVariants.{NoKid, InboxFull, InboxEmpty}
-use Rattle.model.specs.Types.{Kid, First, Second, Third, Kids, Tray, Closed, Open, Holding, Place, OpenTray, ReadTray, LookForNode, LockNode, Recheck, UnlockAndGoBack, ReadKid, ClearKid, UncountKid, Claim, Unlock, Offer, KeepForOneself, GiveBack, CloseTray, WriteData, CountKid, LinkKid, Plan, Job, Makes, Sweeps, Reading, ReadNothing, ReadData, ReadFirst, ReadSecond, Running, Idle, Reads, GoesDown, Keeps, Drops, Hands, Fetches, TakesOut, Works, WalkReads, WalkGoesDown, Address, Nowhere, CountOf, LockOf, KidOf, DataOf, InboxOf, TrayOf, Word, NoWord, LockWord, KidWord, DataWord, InboxWord, TrayWord, Stays, Fills, Lengthens, Tells, Swept, AtNode, Refused, StillRunning, Decision, Situation}
+use Rattle.model.specs.Types.{Ok, Err, Kid, First, Second, Third, Kids, Tray, Closed, Open, Holding, Place, ReadTray, LookForNode, LockNode, Recheck, UnlockAndGoBack, ReadKid, ClearKid, Offer, KeepForOneself, GiveBack, CloseTray, WriteData, CountKid, LinkKid, Plan, Job, Makes, Sweeps, Reading, ReadNothing, ReadData, ReadFirst, ReadSecond, Running, Idle, Reads, GoesDown, Hands, Fetches, TakesOut, Works, WalkReads, WalkGoesDown, Address, Nowhere, CountOf, LockOf, KidOf, DataOf, InboxOf, TrayOf, Word, NoWord, LockWord, KidWord, DataWord, InboxWord, TrayWord, Stays, Fills, Lengthens, Tells, Swept, AtNode, StillRunning, Decision, Situation}
 use Rattle.model.specs.State.{kid_at, Trail, no_trail, along, shorter, longer, Store, set_lock, set_inbox, set_tray, set_slot, set_trail, set_run, last}
 use Rattle.model.specs.Checks.{is_idle, is_none}
 use Rattle.model.specs.Steps.{between, own_address, address, loaded, written, changed, going, ending, ended_by, backward, into_tray, made, after_kid, not_taken, offered, offered_to_oneself, on_tray, from_third, from_second, from_first, onward, decide_place, decide, decision, stepped}
@@ -11,6 +11,7 @@ use Rattle.model.specs.Sound.{Into, on_trail, opens, TrailAt, Sound}
 use Rattle.model.specs.Walks.{Notes, resumes, first_unmarked, gone_up, settled_store}
 use Rattle.model.proofs.Explicit
 use Rattle.model.proofs.Explicit.{is_open, back, no_taker, self_picked, give_first, give_second, give_third, give_after, at_ReadTray, place_step, turn_at}
+use Rattle.model.proofs.Between.{within, is_within}
 use Rattle.model.proofs.Sums.{upd_same}
 use Rattle.model.proofs.Frames.{upd_all}
 use Rattle.model.proofs.Make.{good, quiet, to_back}
@@ -21,20 +22,14 @@ use Rattle.model.proofs.Trails.{Picks, sound_turn, sound_down, sound_trail, up_t
 
 -- where a place looks for a node, a node is picked; where it offers one, a party
 abbrev pub PickedAt : ℕ → ℕ → ℕ → Place → Type 0
-PickedAt N M x c = elim c [ LookForNode ↦ (1 ≤ x) × (x ≤ M) | Offer n ↦ (1 ≤ x) × (x ≤ N) | OpenTray ↦ Unit {0} | ReadTray ↦ Unit {0} | LockNode n ↦ Unit {0} | Recheck n ↦ Unit {0} | UnlockAndGoBack n ↦ Unit {0} | ReadKid n k ↦ Unit {0} | ClearKid n k w ↦ Unit {0} | UncountKid n k w ↦ Unit {0} | Claim n ↦ Unit {0} | Unlock n ↦ Unit {0} | KeepForOneself n ↦ Unit {0} | GiveBack n ↦ Unit {0} | CloseTray v ↦ Unit {0} | WriteData v ↦ Unit {0} | CountKid v k ↦ Unit {0} | LinkKid v k w ↦ Unit {0} ]
+PickedAt N M x c = elim c [ LookForNode ↦ (1 ≤ x) × (x ≤ M) | Offer n ↦ (1 ≤ x) × (x ≤ N) | _ ↦ Unit {0} ]
 
 abbrev pub Picked : {D : Type 0} → ℕ → ℕ → ℕ → Running D → Type 0
-Picked N M x r = elim r [ Works j c ↦ PickedAt N M x c | Idle ↦ Unit {0} | Reads g ↦ Unit {0} | GoesDown k ↦ Unit {0} | Keeps i ↦ Unit {0} | Drops i ↦ Unit {0} | Hands i q ↦ Unit {0} | Fetches i ↦ Unit {0} | TakesOut i v ↦ Unit {0} | WalkReads t g ↦ Unit {0} | WalkGoesDown t k ↦ Unit {0} ]
+Picked N M x r = elim r [ Works j c ↦ PickedAt N M x c | _ ↦ Unit {0} ]
 
-cond_map : {A B : Type 0} (f : A → B) (b : Bool) (x y : A) (u v : B) → f x ≡ u → f y ≡ v → f (cond b x y) ≡ cond b u v
+pub cond_map : {A B : Type 0} (f : A → B) (b : Bool) (x y : A) (u v : B) → f x ≡ u → f y ≡ v → f (cond b x y) ≡ cond b u v
 cond_map f true x y u v h k = h
 cond_map f false x y u v h k = k
-
-within : (n x : ℕ) → between 1 n x ≡ true → (1 ≤ x) × (x ≤ n)
-within n x h = let u = and_parts (leb 1 x) (leb x n) h in (leb-true 1 x u.0, leb-true x n u.1)
-
-pub is_within : (n x : ℕ) → 1 ≤ x → x ≤ n → between 1 n x ≡ true
-is_within n x h k = and_from (leb 1 x) (leb x n) (le-leb 1 x h) (le-leb x n k)
 
 module _ {D : Type 0} (W : Type 0) (N M : ℕ) (s : Store D) (info : ℕ → D) (p x : ℕ) where
   -- what a decision on the word at an address does
@@ -58,12 +53,7 @@ module _ {D : Type 0} (W : Type 0) (N M : ℕ) (s : Store D) (info : ℕ → D) 
 
   nothing_written : (a : Address) → written s a NoWord ≡ s
   nothing_written Nowhere = refl
-  nothing_written (CountOf n) = refl
-  nothing_written (LockOf n) = refl
-  nothing_written (KidOf n k) = refl
-  nothing_written (DataOf n) = refl
-  nothing_written (InboxOf q) = refl
-  nothing_written (TrayOf q) = refl
+  nothing_written _ = refl
 
   back_is : (a : Address) (j : Job D) → decided a (backward j NoWord) ≡ set_run s p (back j)
   back_is a (Makes y) = ap (λ t. set_run t p (Works (Makes y) ReadTray)) (nothing_written a)
@@ -125,36 +115,28 @@ module _ {D : Type 0} (W : Type 0) (N M : ℕ) (s : Store D) (info : ℕ → D) 
     onward_is Third = refl
 
   place_is : (c : Place) (j : Job D) → FitJob j c → PickedAt N M x c → step_from (Works j c) ≡ place_step c j s p x
-  place_is OpenTray j f h = refl
   place_is ReadTray j f h = read_tray_is j (s.tray p)
-  place_is LookForNode j f h = look_is j ∙ cond-true (between 1 M x) (place_step LookForNode j s p x) (set_run s p (back j)) (is_within M x h.0 h.1)
+  place_is LookForNode j f h = look_is j ∙ cond-true (between 1 M x) (place_step LookForNode j s p x) (set_run s p (back j)) (is_within 1 M x h.0 h.1)
   place_is (LockNode n) j f h = cond_map (decided (LockOf n)) (eqb (s.lock n) 0) (going (LockWord p) (Works j (Recheck n))) (backward j NoWord)
       (set_run (set_lock s n p) p (Works j (Recheck n))) (set_run s p (back j)) refl (back_is (LockOf n) j)
   place_is (Recheck n) j f h = cond_map (decided (CountOf n)) (eqb (s.count n) 0) (going NoWord (Works j (ReadKid n First))) (going NoWord (Works j (UnlockAndGoBack n)))
       (set_run s p (Works j (ReadKid n First))) (set_run s p (Works j (UnlockAndGoBack n))) refl refl
-  place_is (UnlockAndGoBack n) (Makes y) f h = refl
   place_is (UnlockAndGoBack n) Sweeps f h = refl
   place_is (ReadKid n k) j f h =
       let w = kid_at (s.kids n) k in
       cond_map (decided (KidOf n k)) (eqb w 0) (going NoWord (Works j (after_kid n k))) (going NoWord (Works j (ClearKid n k w)))
       (set_run s p (Works j (after_kid n k))) (set_run s p (Works j (ClearKid n k w))) refl refl
-  place_is (ClearKid n k w) j f h = refl
-  place_is (UncountKid n k w) j f h = refl
-  place_is (Claim n) j f h = refl
-  place_is (Unlock n) j f h = refl
   place_is (Offer n) j f h =
       let taken = cond (is_open (s.tray x)) (set_run (set_tray s x (Holding n)) p (back j)) (set_run s p (no_taker j n)) in
-      offer_is j n ∙ ap (λ t. cond (eqb x p) (self_picked j s p n) t) (cond-true (between 1 N x) taken (set_run s p (no_taker j n)) (is_within N x h.0 h.1))
+      offer_is j n ∙ ap (λ t. cond (eqb x p) (self_picked j s p n) t) (cond-true (between 1 N x) taken (set_run s p (no_taker j n)) (is_within 1 N x h.0 h.1))
   place_is (KeepForOneself n) j f h = into_is (TrayOf p) (going (TrayWord (Holding n)) (Works j (CloseTray n))) (going NoWord (Works j (GiveBack n))) (s.tray p)
-  place_is (GiveBack n) (Makes y) f h = refl
   place_is (GiveBack n) Sweeps f h = refl
-  place_is (CloseTray v) j f h = refl
   place_is (WriteData v) (Makes y) f h = first_is y v (DataOf v) (DataWord y.given)
-  place_is (WriteData v) Sweeps f h = absurd f
-  place_is (CountKid v k) (Makes y) f h = refl
-  place_is (CountKid v k) Sweeps f h = absurd f
   place_is (LinkKid v k w) (Makes y) f h = onward_is y v (KidOf v k) (KidWord w) k
+  place_is (WriteData v) Sweeps f h = absurd f
+  place_is (CountKid v k) Sweeps f h = absurd f
   place_is (LinkKid v k w) Sweeps f h = absurd f
+  place_is _ j f h = refl
 
   down_is : (b : Bool) (a : Address) (d e : Decision D W) (t u : Store D) (r : Running D) → decided a d ≡ set_run t p r → decided a e ≡ set_run u p r → decided a (cond b d e) ≡ set_run (cond b t u) p r
   down_is true a d e t u r h k = h
@@ -162,31 +144,23 @@ module _ {D : Type 0} (W : Type 0) (N M : ℕ) (s : Store D) (info : ℕ → D) 
 
   from_is : (r : Running D) → is_idle r ≡ false → Fit N r → Picked N M x r → step_from r ≡ turn_at r s info p x
   from_is Idle z f h = absurd (true≢false z)
-  from_is (Reads ReadNothing) z f h = refl
-  from_is (Reads (ReadData d)) z f h = refl
-  from_is (Reads (ReadFirst d i)) z f h = refl
-  from_is (Reads (ReadSecond d i j)) z f h = refl
   from_is (GoesDown k) z f h =
       let c = kid_at (s.kids (last s p)) k in
-      down_is (eqb c 0) (KidOf (last s p) k) (ended_by (Refused NoKid)) (ending NoWord (Lengthens c) (AtNode c)) s (set_trail s p (longer (s.trail p) c)) Idle refl refl
-  from_is (Keeps i) z f h = refl
-  from_is (Drops i) z f h = refl
+      down_is (eqb c 0) (KidOf (last s p) k) (ended_by (Err NoKid)) (ending NoWord (Lengthens c) (AtNode c)) s (set_trail s p (longer (s.trail p) c)) Idle refl refl
   from_is (Hands i q) z f h =
       let v = s.slot p i in
-      cond_map (decided (InboxOf q)) (eqb (s.inbox q) 0) (ending (InboxWord v) (Fills i 0) (AtNode v)) (ended_by (Refused InboxFull)) (set_run (set_slot (set_inbox s q v) p i 0) p Idle) (set_run s p Idle) refl refl
+      cond_map (decided (InboxOf q)) (eqb (s.inbox q) 0) (ending (InboxWord v) (Fills i 0) (AtNode v)) (ended_by (Err InboxFull)) (set_run (set_slot (set_inbox s q v) p i 0) p Idle) (set_run s p Idle) refl refl
   from_is (Fetches i) z f h =
       let v = s.inbox p in
-      cond_map (decided (InboxOf p)) (eqb v 0) (ended_by (Refused InboxEmpty)) (going NoWord (TakesOut i v)) (set_run s p Idle) (set_run s p (TakesOut i v)) refl refl
-  from_is (TakesOut i v) z f h = refl
+      cond_map (decided (InboxOf p)) (eqb v 0) (ended_by (Err InboxEmpty)) (going NoWord (TakesOut i v)) (set_run s p Idle) (set_run s p (TakesOut i v)) refl refl
   from_is (Works j c) z f h = place_is c j f.1 h
-  from_is (WalkReads t ReadNothing) z f h = refl
-  from_is (WalkReads t (ReadData d)) z f h = refl
-  from_is (WalkReads t (ReadFirst d i)) z f h = refl
-  from_is (WalkReads t (ReadSecond d i j)) z f h = refl
   from_is (WalkGoesDown t k) z f h =
       let c = kid_at (s.kids (last s p)) k in
-      down_is (eqb c 0) (KidOf (last s p) k) (going NoWord (WalkReads t ReadNothing)) (record { word = NoWord; change = Lengthens c; next = WalkReads t ReadNothing; told = Tells StillRunning })
+      down_is (eqb c 0) (KidOf (last s p) k) (going NoWord (WalkReads t ReadNothing)) (record { word = NoWord; change = Lengthens c; next = WalkReads t ReadNothing; told = Tells (Ok StillRunning) })
       s (set_trail s p (longer (s.trail p) c)) (WalkReads t ReadNothing) refl refl
+  from_is (Reads ReadNothing) z f h = refl
+  from_is (WalkReads t ReadNothing) z f h = refl
+  from_is _ z f h = refl
 
   -- the specified step is the step place by place
   pub stepped_is : (r : Running D) → s.run p ≡ r → is_idle r ≡ false → Fit N r → Picked N M x r → stepped N M s info p x (decision {W = W} N M s info p x) ≡ turn_at r s info p x
@@ -247,7 +221,7 @@ module _ {D : Type 0} (N M : ℕ) (s : Store D) (S : Sound N M s) (p : ℕ) (a :
 
     look_after : (j : Job D) → s.run p ≡ Works j LookForNode → After (Works j LookForNode)
     look_after j e = elim (cases_Bool (between 1 M x)) [
-      | inl h ↦ by_turn (Works j LookForNode) e refl tt (within M x h)
+      | inl h ↦ by_turn (Works j LookForNode) e refl tt (within 1 M x h)
       | inr h ↦ subst (Sound N M) (sym (look_is W N M s info p x j ∙ cond-false (between 1 M x) (place_step LookForNode j s p x) (set_run s p (back j)) h)) (sound_back j e)
     ]
 
@@ -256,40 +230,19 @@ module _ {D : Type 0} (N M : ℕ) (s : Store D) (S : Sound N M s) (p : ℕ) (a :
         let u = set_run s p (no_taker j n) in
         let v = cond (is_open (s.tray x)) (set_run (set_tray s x (Holding n)) p (back j)) u in
         elim (cases_Bool (between 1 N x)) [
-          | inl h ↦ by_turn (Works j (Offer n)) e refl tt (within N x h)
-          | inr h ↦ subst (Sound N M) (sym (offer_is W N M s info p x j n ∙ cond-false (eqb x p) (self_picked j s p n) (cond (between 1 N x) v u) (ne_eqb x p (λ q. true≢false (sym (subst (λ y. between 1 N y ≡ true) (sym q) (is_within N p a b)) ∙ h))) ∙ cond-false (between 1 N x) v u h)) (sound_no_taker j n e)
+          | inl h ↦ by_turn (Works j (Offer n)) e refl tt (within 1 N x h)
+          | inr h ↦ subst (Sound N M) (sym (offer_is W N M s info p x j n ∙ cond-false (eqb x p) (self_picked j s p n) (cond (between 1 N x) v u) (ne_eqb x p (λ q. true≢false (sym (subst (λ y. between 1 N y ≡ true) (sym q) (is_within 1 N p a b)) ∙ h))) ∙ cond-false (between 1 N x) v u h)) (sound_no_taker j n e)
         ]
 
     place_after : (c : Place) (j : Job D) → s.run p ≡ Works j c → After (Works j c)
-    place_after OpenTray j e = by_turn (Works j OpenTray) e refl tt tt
-    place_after ReadTray j e = by_turn (Works j ReadTray) e refl tt tt
     place_after LookForNode j e = look_after j e
-    place_after (LockNode n) j e = by_turn (Works j (LockNode n)) e refl tt tt
-    place_after (Recheck n) j e = by_turn (Works j (Recheck n)) e refl tt tt
-    place_after (UnlockAndGoBack n) j e = by_turn (Works j (UnlockAndGoBack n)) e refl tt tt
-    place_after (ReadKid n k) j e = by_turn (Works j (ReadKid n k)) e refl tt tt
-    place_after (ClearKid n k w) j e = by_turn (Works j (ClearKid n k w)) e refl tt tt
-    place_after (UncountKid n k w) j e = by_turn (Works j (UncountKid n k w)) e refl tt tt
-    place_after (Claim n) j e = by_turn (Works j (Claim n)) e refl tt tt
-    place_after (Unlock n) j e = by_turn (Works j (Unlock n)) e refl tt tt
     place_after (Offer n) j e = offer_after j n e
-    place_after (KeepForOneself n) j e = by_turn (Works j (KeepForOneself n)) e refl tt tt
-    place_after (GiveBack n) j e = by_turn (Works j (GiveBack n)) e refl tt tt
-    place_after (CloseTray v) j e = by_turn (Works j (CloseTray v)) e refl tt tt
-    place_after (WriteData v) j e = by_turn (Works j (WriteData v)) e refl tt tt
-    place_after (CountKid v k) j e = by_turn (Works j (CountKid v k)) e refl tt tt
-    place_after (LinkKid v k w) j e = by_turn (Works j (LinkKid v k w)) e refl tt tt
+    place_after c j e = by_turn (Works j c) e refl tt tt
 
     after : (r : Running D) → s.run p ≡ r → is_idle r ≡ false → After r
     after Idle e z = absurd (true≢false z)
-    after (Reads g) e z = by_turn (Reads g) e z tt tt
     after (GoesDown k) e z = subst (Sound N M) (sym (from_is W N M s info p x (GoesDown k) z tt tt))
         (sound_down N M s S p a b k Idle (ap on_trail e) (ap reliance e) refl (ap opens e) (ap (λ f. (needs_of f).source) e) calm tt refl)
-    after (Keeps i) e z = by_turn (Keeps i) e z tt tt
-    after (Drops i) e z = by_turn (Drops i) e z tt tt
-    after (Hands i q) e z = by_turn (Hands i q) e z tt tt
-    after (Fetches i) e z = by_turn (Fetches i) e z tt tt
-    after (TakesOut i v) e z = by_turn (TakesOut i v) e z tt tt
     after (Works j c) e z = place_after c j e
     after (WalkReads t ReadNothing) e z = sound_walk t ReadNothing e (WalkReads t (ReadData (info (last s p)))) refl calm tt refl
     after (WalkReads t (ReadData d)) e z = sound_walk t (ReadData d) e (WalkReads t (ReadFirst d (s.kids (last s p)).first)) refl calm tt refl
@@ -297,6 +250,7 @@ module _ {D : Type 0} (N M : ℕ) (s : Store D) (S : Sound N M s) (p : ℕ) (a :
     after (WalkReads t (ReadSecond d i j)) e z = sound_walk t (ReadSecond d i j) e Idle refl calm tt refl
     after (WalkGoesDown t k) e z = subst (Sound N M) (sym (from_is W N M s info p x (WalkGoesDown t k) z tt tt))
         (sound_down N M s S p a b k (WalkReads t ReadNothing) (ap on_trail e) (ap reliance e) refl (ap opens e) (ap (λ f. (needs_of f).source) e) calm tt refl)
+    after c e z = by_turn c e z tt tt
 
   -- up from the last node
   module _ (t : Situation) (g : Reading D) (e : s.run p ≡ WalkReads t g) where

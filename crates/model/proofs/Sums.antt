@@ -1,4 +1,4 @@
-use Rattle.std.proofs.Common.{◌≡◌, ℕ, zero, suc, ◌+◌, ◌≤◌, ◌≢◌, ◌⊎◌, sym, refl, ap, inl, inr, arith}
+use Rattle.std.proofs.Common.{◌≡◌, ℕ, zero, suc, ◌+◌, ◌*◌, ◌≤◌, ◌≢◌, ◌⊎◌, sym, refl, ap, inl, inr, arith}
 use Rattle.std.proofs.lemmas.Bool.{cases_eq, eq-eqb, ne_eqb}
 use Rattle.std.proofs.lemmas.Bool.Decides.{nat_tests}
 use Rattle.model.specs.Fun.{upd, sum_to, is}
@@ -77,3 +77,17 @@ sum_to_some (suc n) f h =
       | inl e ↦ let r = sum_to_some n f (omega arith) in (r.0, r.1, omega arith, r.3)
       | inr z ↦ (suc n, omega arith, omega arith, omega arith)
     ]
+
+pub sum_le : (n : ℕ) (f g : ℕ → ℕ) → ((k : ℕ) → 1 ≤ k → k ≤ n → f k ≤ g k) → sum_to n f ≤ sum_to n g
+unfolding sum_to
+sum_le zero f g h = omega arith
+sum_le (suc n) f g h = let d = sum_le n f g (λ k a b. h k a (omega arith)) in let e = h (suc n) (omega arith) (omega arith) in omega arith
+
+-- a sum of terms of at most k each
+pub sum_at_most : (k n : ℕ) (f : ℕ → ℕ) → ((i : ℕ) → 1 ≤ i → i ≤ n → f i ≤ k) → sum_to n f ≤ n * k
+unfolding sum_to
+sum_at_most k zero f h = omega arith
+sum_at_most k (suc n) f h = let d = sum_at_most k n f (λ i a b. h i a (omega arith)) in let e = h (suc n) (omega arith) (omega arith) in omega arith
+
+pub sum_to_none : (n : ℕ) (f : ℕ → ℕ) → ((k : ℕ) → 1 ≤ k → k ≤ n → f k ≡ 0) → sum_to n f ≡ 0
+sum_to_none n f h = let u = sum_at_most 0 n f (λ k a b. (let e = h k a b in omega arith)) in omega arith

@@ -1,75 +1,45 @@
 -- Every step but a walk's fourth reading tells an outcome at once.
 use Rattle.std.proofs.Common.{ℕ, cond, eqb}
 use Rattle.std.proofs.lemmas.Bool.{cond_both}
-use Rattle.model.specs.Types.{Kid, First, Second, Third, Tray, Closed, Open, Holding, Place, OpenTray, ReadTray, LookForNode, LockNode, Recheck, UnlockAndGoBack, ReadKid, ClearKid, UncountKid, Claim, Unlock, Offer, KeepForOneself, GiveBack, CloseTray, WriteData, CountKid, LinkKid, Plan, Job, Makes, Sweeps, ReadNothing, ReadData, ReadFirst, ReadSecond, Running, Idle, Reads, GoesDown, Keeps, Drops, Hands, Fetches, TakesOut, Works, WalkReads, WalkGoesDown, AtNode, Refused, StillRunning, Word, NoWord, CountWord, LockWord, KidWord, DataWord, InboxWord, TrayWord, Fills, Lengthens, Told, Tells, Settles, Decision}
+use Rattle.model.specs.Types.{Ok, Err, Kid, First, Second, Third, Tray, Closed, Open, Holding, Place, OpenTray, ReadTray, LookForNode, LockNode, Recheck, UnlockAndGoBack, ReadKid, ClearKid, UncountKid, Claim, Unlock, Offer, KeepForOneself, GiveBack, CloseTray, WriteData, CountKid, LinkKid, Plan, Job, Makes, Sweeps, ReadNothing, ReadSecond, Running, Idle, Reads, GoesDown, Keeps, Drops, Hands, Fetches, TakesOut, Works, WalkReads, WalkGoesDown, AtNode, StillRunning, Word, NoWord, CountWord, LockWord, KidWord, DataWord, InboxWord, TrayWord, Fills, Lengthens, Told, Tells, Settles, Decision}
 use Rattle.refusals.specs.declared.Refusal.TheVariants.{NoKid, InboxFull, InboxEmpty}
 use Rattle.model.specs.Steps.{on_count, on_lock, on_kid, on_data, on_inbox, on_tray, going, ending, ended_by, stuck, backward, after_kid, into_own_tray, not_taken, offered, let_go, offered_to_oneself, made, from_third, from_second, from_first, onward, data_given, kid_linked, decide_place, decide}
 
 abbrev pub TellsAtOnce : {D W : Type 0} → Told D W → Type 0
 TellsAtOnce (Tells o) = Unit {0}
-TellsAtOnce (Settles t d ks) = ⊥
+TellsAtOnce (Settles n) = ⊥
 
 -- a walk's fourth reading
 abbrev pub IsFourth : {D : Type 0} → Running D → Type 0
-IsFourth r = elim r [ WalkReads t g ↦ elim g [ ReadSecond d i j ↦ Unit {0} | ReadNothing ↦ ⊥ | ReadData d ↦ ⊥ | ReadFirst d i ↦ ⊥ ] | Idle ↦ ⊥ | Reads g ↦ ⊥ | GoesDown k ↦ ⊥ | Keeps i ↦ ⊥ | Drops i ↦ ⊥ | Hands i q ↦ ⊥ | Fetches i ↦ ⊥ | TakesOut i v ↦ ⊥ | Works j c ↦ ⊥ | WalkGoesDown t k ↦ ⊥ ]
+IsFourth r = elim r [ WalkReads t g ↦ elim g [ ReadSecond d i j ↦ Unit {0} | _ ↦ ⊥ ] | _ ↦ ⊥ ]
 
 module _ {D : Type 0} (W : Type 0) where
   abbrev At : Decision D W → Type 0
   At d = TellsAtOnce d.told
 
   on_count_lem : (w : Word D) (e : Decision D W) (f : ℕ → Decision D W) → At e → ((v : ℕ) → At (f v)) → At (on_count w e f)
-  on_count_lem NoWord e f h g = h
   on_count_lem (CountWord v) e f h g = g v
-  on_count_lem (LockWord v) e f h g = h
-  on_count_lem (KidWord v) e f h g = h
-  on_count_lem (DataWord v) e f h g = h
-  on_count_lem (InboxWord v) e f h g = h
-  on_count_lem (TrayWord v) e f h g = h
+  on_count_lem _ e f h g = h
 
   on_tray_lem : (w : Word D) (e : Decision D W) (f : Tray → Decision D W) → At e → ((v : Tray) → At (f v)) → At (on_tray w e f)
-  on_tray_lem NoWord e f h g = h
-  on_tray_lem (CountWord v) e f h g = h
-  on_tray_lem (LockWord v) e f h g = h
-  on_tray_lem (KidWord v) e f h g = h
-  on_tray_lem (DataWord v) e f h g = h
-  on_tray_lem (InboxWord v) e f h g = h
   on_tray_lem (TrayWord v) e f h g = g v
+  on_tray_lem _ e f h g = h
 
   on_lock_lem : (w : Word D) (f : ℕ → Decision D W) → ((v : ℕ) → At (f v)) → At (on_lock w f)
-  on_lock_lem NoWord f g = tt
-  on_lock_lem (CountWord v) f g = tt
   on_lock_lem (LockWord v) f g = g v
-  on_lock_lem (KidWord v) f g = tt
-  on_lock_lem (DataWord v) f g = tt
-  on_lock_lem (InboxWord v) f g = tt
-  on_lock_lem (TrayWord v) f g = tt
+  on_lock_lem _ f g = tt
 
   on_kid_lem : (w : Word D) (f : ℕ → Decision D W) → ((v : ℕ) → At (f v)) → At (on_kid w f)
-  on_kid_lem NoWord f g = tt
-  on_kid_lem (CountWord v) f g = tt
-  on_kid_lem (LockWord v) f g = tt
   on_kid_lem (KidWord v) f g = g v
-  on_kid_lem (DataWord v) f g = tt
-  on_kid_lem (InboxWord v) f g = tt
-  on_kid_lem (TrayWord v) f g = tt
+  on_kid_lem _ f g = tt
 
   on_data_lem : (w : Word D) (f : D → Decision D W) → ((v : D) → At (f v)) → At (on_data w f)
-  on_data_lem NoWord f g = tt
-  on_data_lem (CountWord v) f g = tt
-  on_data_lem (LockWord v) f g = tt
-  on_data_lem (KidWord v) f g = tt
   on_data_lem (DataWord v) f g = g v
-  on_data_lem (InboxWord v) f g = tt
-  on_data_lem (TrayWord v) f g = tt
+  on_data_lem _ f g = tt
 
   on_inbox_lem : (w : Word D) (f : ℕ → Decision D W) → ((v : ℕ) → At (f v)) → At (on_inbox w f)
-  on_inbox_lem NoWord f g = tt
-  on_inbox_lem (CountWord v) f g = tt
-  on_inbox_lem (LockWord v) f g = tt
-  on_inbox_lem (KidWord v) f g = tt
-  on_inbox_lem (DataWord v) f g = tt
   on_inbox_lem (InboxWord v) f g = g v
-  on_inbox_lem (TrayWord v) f g = tt
+  on_inbox_lem _ f g = tt
 
   backs : (j : Job D) (w : Word D) → At (backward j w)
   backs (Makes plan) w = tt
@@ -153,19 +123,15 @@ module _ {D : Type 0} (W : Type 0) where
   pub tells_at_once : (r : Running D) (w : Word D) (p x : ℕ) (slots : ℕ → ℕ) (n : ℕ) → (IsFourth r → ⊥) → At (decide r w p x slots n)
   tells_at_once Idle w p x slots n h = tt
   tells_at_once (Reads ReadNothing) w p x slots n h = on_data_lem w _ (λ _. tt)
-  tells_at_once (Reads (ReadData d)) w p x slots n h = on_kid_lem w _ (λ _. tt)
-  tells_at_once (Reads (ReadFirst d i)) w p x slots n h = on_kid_lem w _ (λ _. tt)
-  tells_at_once (Reads (ReadSecond d i j)) w p x slots n h = on_kid_lem w _ (λ _. tt)
-  tells_at_once (GoesDown k) w p x slots n h = on_kid_lem w (λ c. cond (eqb c 0) (ended_by (Refused NoKid)) (ending NoWord (Lengthens c) (AtNode c))) (λ c. choose c (ended_by (Refused NoKid)) (ending NoWord (Lengthens c) (AtNode c)) tt tt)
+  tells_at_once (GoesDown k) w p x slots n h = on_kid_lem w (λ c. cond (eqb c 0) (ended_by (Err NoKid)) (ending NoWord (Lengthens c) (AtNode c))) (λ c. choose c (ended_by (Err NoKid)) (ending NoWord (Lengthens c) (AtNode c)) tt tt)
   tells_at_once (Keeps i) w p x slots n h = on_count_lem w stuck _ tt (λ _. tt)
   tells_at_once (Drops i) w p x slots n h = on_count_lem w stuck _ tt (λ _. tt)
-  tells_at_once (Hands i q) w p x slots n h = on_inbox_lem w (λ b. cond (eqb b 0) (ending (InboxWord (slots i)) (Fills i 0) (AtNode (slots i))) (ended_by (Refused InboxFull))) (λ b. choose b (ending (InboxWord (slots i)) (Fills i 0) (AtNode (slots i))) (ended_by (Refused InboxFull)) tt tt)
-  tells_at_once (Fetches i) w p x slots n h = on_inbox_lem w (λ b. cond (eqb b 0) (ended_by (Refused InboxEmpty)) (going NoWord (TakesOut i b))) (λ b. choose b (ended_by (Refused InboxEmpty)) (going NoWord (TakesOut i b)) tt tt)
+  tells_at_once (Hands i q) w p x slots n h = on_inbox_lem w (λ b. cond (eqb b 0) (ending (InboxWord (slots i)) (Fills i 0) (AtNode (slots i))) (ended_by (Err InboxFull))) (λ b. choose b (ending (InboxWord (slots i)) (Fills i 0) (AtNode (slots i))) (ended_by (Err InboxFull)) tt tt)
+  tells_at_once (Fetches i) w p x slots n h = on_inbox_lem w (λ b. cond (eqb b 0) (ended_by (Err InboxEmpty)) (going NoWord (TakesOut i b))) (λ b. choose b (ended_by (Err InboxEmpty)) (going NoWord (TakesOut i b)) tt tt)
   tells_at_once (TakesOut i v) w p x slots n h = on_inbox_lem w _ (λ _. tt)
   tells_at_once (Works j c) w p x slots n h = place_tells c j w p x slots
   tells_at_once (WalkReads t ReadNothing) w p x slots n h = on_data_lem w _ (λ _. tt)
-  tells_at_once (WalkReads t (ReadData d)) w p x slots n h = on_kid_lem w _ (λ _. tt)
-  tells_at_once (WalkReads t (ReadFirst d i)) w p x slots n h = on_kid_lem w _ (λ _. tt)
   tells_at_once (WalkReads t (ReadSecond d i j)) w p x slots n h = absurd (h tt)
-  tells_at_once (WalkGoesDown t k) w p x slots n h = on_kid_lem w (λ c. cond (eqb c 0) (going NoWord (WalkReads t ReadNothing)) (record { word = NoWord; change = Lengthens c; next = WalkReads t ReadNothing; told = Tells StillRunning }))
-      (λ c. choose c (going NoWord (WalkReads t ReadNothing)) (record { word = NoWord; change = Lengthens c; next = WalkReads t ReadNothing; told = Tells StillRunning }) tt tt)
+  tells_at_once (WalkGoesDown t k) w p x slots n h = on_kid_lem w (λ c. cond (eqb c 0) (going NoWord (WalkReads t ReadNothing)) (record { word = NoWord; change = Lengthens c; next = WalkReads t ReadNothing; told = Tells (Ok StillRunning) }))
+      (λ c. choose c (going NoWord (WalkReads t ReadNothing)) (record { word = NoWord; change = Lengthens c; next = WalkReads t ReadNothing; told = Tells (Ok StillRunning) }) tt tt)
+  tells_at_once _ w p x slots n h = on_kid_lem w _ (λ _. tt)

@@ -1,7 +1,7 @@
 -- A trail stays a path from the node of its slot along kids; so every turn of a call keeps the store sound.
 use Rattle.std.proofs.Common.{◌≡◌, ℕ, ◌≤◌, true, false, eqb, ◌≢◌, List, [], ◌∷◌, sym, refl, ap, ◌∙◌, subst, inl, inr, true≢false, arith}
 use Rattle.std.proofs.lemmas.Bool.{cases_eq, cond_both, eqb-false}
-use Rattle.model.specs.Types.{Kid, Kids, Closed, OpenTray, LookForNode, Offer, Job, Makes, Sweeps, ReadNothing, ReadData, ReadFirst, ReadSecond, Running, Idle, Reads, GoesDown, Keeps, Drops, Hands, Fetches, TakesOut, Works, WalkReads, WalkGoesDown}
+use Rattle.model.specs.Types.{Kid, Kids, Closed, OpenTray, LookForNode, Offer, Job, Makes, Sweeps, ReadNothing, ReadData, ReadFirst, ReadSecond, Running, Idle, Reads, Keeps, Drops, Hands, Fetches, TakesOut, Works}
 use Rattle.model.specs.State.{kid_at, Trail, no_trail, along, last_of, longer, shorter, Store, set_trail, set_run, last}
 use Rattle.model.specs.Checks.{is_none}
 use Rattle.model.specs.Reach.{Reached, by_slot, by_kid, Below, kid, deeper, InTerm, Chain}
@@ -157,9 +157,7 @@ module _ {D : Type 0} (N M : ℕ) (s : Store D) (S : Sound N M s) (p : ℕ) (a :
   inv_turn info x g (Reads (ReadData d)) h e = at_rest N M s S.inv p a b (Reads (ReadFirst d (s.kids (last s p)).first)) (ap reliance e) refl (no_needs N M s S.inv p a b s)
   inv_turn info x g (Reads (ReadFirst d i)) h e = at_rest N M s S.inv p a b (Reads (ReadSecond d i (s.kids (last s p)).second)) (ap reliance e) refl (no_needs N M s S.inv p a b s)
   inv_turn info x g (Reads (ReadSecond d i j)) h e = at_rest N M s S.inv p a b Idle (ap reliance e) refl (no_needs N M s S.inv p a b s)
-  inv_turn info x g (GoesDown k) h e = absurd h
-  inv_turn info x g (WalkReads t y) h e = absurd h
-  inv_turn info x g (WalkGoesDown t k) h e = absurd h
+  inv_turn info x g _ h e = absurd h
 
   -- any turn of a call that is no Down and no walk
   pub sound_turn : (info : ℕ → D) (x : ℕ) → Picks x → Stands (s.run p) → Sound N M (turn_at (s.run p) s info p x)

@@ -2,12 +2,13 @@
 use Rattle.std.proofs.Common.{◌≡◌, ℕ, ◌+◌, ◌-◌, ◌≤◌, true, false, cond, eqb, ◌≢◌, sym, refl, ap, ◌∙◌, true≢false}
 use Rattle.std.proofs.lemmas.Bool.{cond_both, eqb-false}
 use Rattle.model.specs.Fun.{upd}
-use Rattle.model.specs.Types.{Kid, First, Second, Third, Tray, Closed, Open, Holding, Place, OpenTray, ReadTray, LookForNode, LockNode, Recheck, UnlockAndGoBack, ReadKid, ClearKid, UncountKid, Claim, Unlock, Offer, KeepForOneself, GiveBack, CloseTray, WriteData, CountKid, LinkKid, Plan, Job, Makes, Sweeps, ReadNothing, ReadData, ReadFirst, ReadSecond, Running, Idle, Reads, GoesDown, Keeps, Drops, Hands, Fetches, TakesOut, Works, WalkReads, WalkGoesDown}
+use Rattle.model.specs.Types.{Kid, First, Second, Third, Tray, Closed, Open, Holding, Place, OpenTray, ReadTray, LookForNode, LockNode, Recheck, UnlockAndGoBack, ReadKid, ClearKid, UncountKid, Claim, Unlock, Offer, KeepForOneself, GiveBack, CloseTray, WriteData, CountKid, LinkKid, Plan, Job, Makes, Sweeps, ReadNothing, ReadData, ReadFirst, ReadSecond, Running, Idle, Reads, Keeps, Drops, Hands, Fetches, TakesOut, Works}
 use Rattle.model.specs.State.{kid_at, Store, set_count, set_lock, set_kid, set_inbox, set_tray, set_slot, set_run, last}
 use Rattle.model.specs.Steps.{after_kid}
 use Rattle.model.specs.Inv.{Inv}
 use Rattle.model.specs.Sound.{opens, opens_at}
-use Rattle.model.proofs.Explicit.{is_open, back, made, give_first, give_second, give_third, give_after, at_ReadTray, own_tray, place_step, turn_at}
+use Rattle.model.proofs.Gives.{first_any, after_any}
+use Rattle.model.proofs.Explicit.{is_open, back, made, give_first, give_after, at_ReadTray, own_tray, place_step, turn_at}
 use Rattle.model.proofs.Sums.{upd_same, upd_other}
 use Rattle.model.proofs.Make.{good}
 use Rattle.model.proofs.Stays.{Stands}
@@ -40,19 +41,14 @@ module _ {D : Type 0} (N M : ℕ) (s : Store D) (I : Inv N M s) (p : ℕ) (a : 1
     end : Shuts s (made x t p v) p
     end = same (set_slot t p x.slot v) Idle e (λ _. o)
 
-    shut_third : Shuts s (give_third x t p v) p
-    shut_third = cond_both (eqb x.kids.third 0) (made x t p v) (set_run t p (Works (Makes x) (CountKid v Third))) (λ u. Shuts s u p) (λ _. end) (λ _. same t (Works (Makes x) (CountKid v Third)) e (λ _. o))
-
-    shut_second : Shuts s (give_second x t p v) p
-    shut_second = cond_both (eqb x.kids.second 0) (give_third x t p v) (set_run t p (Works (Makes x) (CountKid v Second))) (λ u. Shuts s u p) (λ _. shut_third) (λ _. same t (Works (Makes x) (CountKid v Second)) e (λ _. o))
+    more : (k : Kid) → Shuts s (set_run t p (Works (Makes x) (CountKid v k))) p
+    more k = same t (Works (Makes x) (CountKid v k)) e (λ _. o)
 
     shut_first : Shuts s (give_first x t p v) p
-    shut_first = cond_both (eqb x.kids.first 0) (give_second x t p v) (set_run t p (Works (Makes x) (CountKid v First))) (λ u. Shuts s u p) (λ _. shut_second) (λ _. same t (Works (Makes x) (CountKid v First)) e (λ _. o))
+    shut_first = first_any (λ u. Shuts s u p) x t p v end more
 
     shut_after : (k : Kid) → Shuts s (give_after x t p v k) p
-    shut_after First = shut_second
-    shut_after Second = shut_third
-    shut_after Third = end
+    shut_after = after_any (λ u. Shuts s u p) x t p v end more
 
   after_kid_opens : (n : ℕ) (k : Kid) → opens_at (after_kid n k) ≡ true
   after_kid_opens n First = refl
@@ -61,7 +57,6 @@ module _ {D : Type 0} (N M : ℕ) (s : Store D) (I : Inv N M s) (p : ℕ) (a : 1
 
   shut_place_lem : (x : ℕ) (c : Place) (j : Job D) → s.run p ≡ Works j c → Shuts s (place_step c j s p x) p
   shut_place_lem x OpenTray (Makes y) e = record { others = λ q d z. upd_other s.tray p q Open d ∙ z; own = λ h g. absurd (true≢false (ap opens (sym (upd_same s.run p (Works (Makes y) ReadTray))) ∙ h)) }
-  shut_place_lem x OpenTray Sweeps e = absurd (good N M s I p a b Sweeps OpenTray e).2.1
   shut_place_lem x ReadTray j e = same s (at_ReadTray (s.tray p) j) refl (go (s.tray p))
     where
       go : (t : Tray) → opens (at_ReadTray t j) ≡ false → opens (s.run p) ≡ false
@@ -89,15 +84,12 @@ module _ {D : Type 0} (N M : ℕ) (s : Store D) (I : Inv N M s) (p : ℕ) (a : 1
       (λ o. fills x (Holding n) Idle o (λ h. (eqb-false x p d, ap opens e))) (λ _. same s (Works Sweeps (GiveBack n)) refl (λ _. ap opens e)))
   shut_place_lem x (KeepForOneself n) (Makes y) e = cond_both (is_open (s.tray p)) (set_run (set_tray s p (Holding n)) p (Works (Makes y) (CloseTray n))) (set_run s p (Works (Makes y) (GiveBack n))) (λ u. Shuts s u p)
       (λ o. fills p (Holding n) (Works (Makes y) (CloseTray n)) o (λ h. absurd (true≢false h))) (λ _. same s (Works (Makes y) (GiveBack n)) refl (on (Makes y) (KeepForOneself n) (GiveBack n) e refl))
-  shut_place_lem x (KeepForOneself n) Sweeps e = absurd (good N M s I p a b Sweeps (KeepForOneself n) e).2.1
   shut_place_lem x (GiveBack n) j e = same (set_count s n 0) (back j) refl (on_back j (GiveBack n) e)
   shut_place_lem x (CloseTray v) j e = record { others = λ q d z. upd_other s.tray p q Closed d ∙ z; own = λ h g. upd_same s.tray p Closed }
   shut_place_lem x (WriteData v) (Makes y) e = shut_first y s v refl (ap opens e)
-  shut_place_lem x (WriteData v) Sweeps e = absurd (good N M s I p a b Sweeps (WriteData v) e).2.1
   shut_place_lem x (CountKid v k) (Makes y) e = let w = s.slot p (kid_at y.kids k) in same (set_count s w (s.count w + 1)) (Works (Makes y) (LinkKid v k w)) refl (λ _. ap opens e)
-  shut_place_lem x (CountKid v k) Sweeps e = absurd (good N M s I p a b Sweeps (CountKid v k) e).2.1
   shut_place_lem x (LinkKid v k w) (Makes y) e = shut_after y (set_kid s v k w) v refl (ap opens e) k
-  shut_place_lem x (LinkKid v k w) Sweeps e = absurd (good N M s I p a b Sweeps (LinkKid v k w) e).2.1
+  shut_place_lem x c Sweeps e = absurd (good N M s I p a b Sweeps c e).2.1
 
   shut_at : (info : ℕ → D) (x : ℕ) (r : Running D) → Stands r → s.run p ≡ r → Shuts s (turn_at r s info p x) p
   shut_at info x Idle h e = record { others = λ q d z. z; own = λ o g. g o }
@@ -105,9 +97,6 @@ module _ {D : Type 0} (N M : ℕ) (s : Store D) (I : Inv N M s) (p : ℕ) (a : 1
   shut_at info x (Reads (ReadData d)) h e = same s (Reads (ReadFirst d (s.kids (last s p)).first)) refl (λ _. ap opens e)
   shut_at info x (Reads (ReadFirst d i)) h e = same s (Reads (ReadSecond d i (s.kids (last s p)).second)) refl (λ _. ap opens e)
   shut_at info x (Reads (ReadSecond d i j)) h e = same s Idle refl (λ _. ap opens e)
-  shut_at info x (GoesDown k) h e = absurd h
-  shut_at info x (WalkReads t g) h e = absurd h
-  shut_at info x (WalkGoesDown t k) h e = absurd h
   shut_at info x (Works j c) h e = shut_place_lem x c j e
   shut_at info x (Keeps i) h e = let w = last s p in same (set_slot (set_count s w (s.count w + 1)) p i w) Idle refl (λ _. ap opens e)
   shut_at info x (Drops i) h e = let w = s.slot p i in same (set_slot (set_count s w (s.count w - 1)) p i 0) Idle refl (λ _. ap opens e)
@@ -115,6 +104,7 @@ module _ {D : Type 0} (N M : ℕ) (s : Store D) (I : Inv N M s) (p : ℕ) (a : 1
   shut_at info x (Hands i q) h e = cond_both (eqb (s.inbox q) 0) (set_run (set_slot (set_inbox s q (s.slot p i)) p i 0) p Idle) (set_run s p Idle) (λ u. Shuts s u p)
       (λ _. same (set_slot (set_inbox s q (s.slot p i)) p i 0) Idle refl (λ _. ap opens e)) (λ _. same s Idle refl (λ _. ap opens e))
   shut_at info x (TakesOut i v) h e = same (set_slot (set_inbox s p 0) p i v) Idle refl (λ _. ap opens e)
+  shut_at info x _ h e = absurd h
 
   pub turn_shuts : (info : ℕ → D) (x : ℕ) → Stands (s.run p) → Shuts s (turn_at (s.run p) s info p x) p
   turn_shuts info x h = shut_at info x (s.run p) h refl

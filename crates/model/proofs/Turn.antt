@@ -1,12 +1,12 @@
 -- The rest of the steps, and every step together.
-use Rattle.std.proofs.Common.{◌≡◌, ℕ, ◌+◌, ◌≤◌, cond, eqb, ◌≢◌, sym, refl, ap, ◌∙◌, subst, inl, inr, arith}
+use Rattle.std.proofs.Common.{◌≡◌, ℕ, ◌+◌, ◌≤◌, ◌≢◌, sym, refl, ap, ◌∙◌, subst, inl, inr, arith}
 use Rattle.std.proofs.lemmas.Bool.{cond_both, eqb-true, eqb-false}
 use Rattle.model.specs.Fun.{upd, is}
-use Rattle.model.specs.Types.{Holding, Place, OpenTray, ReadTray, LookForNode, LockNode, Recheck, UnlockAndGoBack, ReadKid, ClearKid, UncountKid, Claim, Unlock, Offer, KeepForOneself, GiveBack, CloseTray, WriteData, CountKid, LinkKid, Plan, Job, Makes, Sweeps, Running, Idle, Reads, GoesDown, Keeps, Drops, Hands, Fetches, TakesOut, Works, WalkReads, WalkGoesDown}
+use Rattle.model.specs.Types.{Holding, Place, OpenTray, ReadTray, LookForNode, LockNode, Recheck, UnlockAndGoBack, ReadKid, ClearKid, UncountKid, Claim, Unlock, Offer, KeepForOneself, GiveBack, CloseTray, WriteData, CountKid, LinkKid, Plan, Job, Makes, Sweeps, Running, Idle, Keeps, Drops, Hands, Fetches, TakesOut, Works}
 use Rattle.model.specs.State.{Store, set_count, set_inbox, set_tray, set_slot, set_run, last}
 use Rattle.model.specs.Reach.{Reached}
 use Rattle.model.specs.Inv.{relies, none, reliance_at, reliance, needs_job, tray_node, carry, in_slots, in_boxes, in_trays, carried, in_kids, FitJob, LocalOf, Good, Inv}
-use Rattle.model.proofs.Explicit.{is_open, back, own_tray, place_step, turn_at}
+use Rattle.model.proofs.Explicit.{back, own_tray, place_step, turn_at}
 use Rattle.model.proofs.Sums.{upd_same, upd_other, is_same, is_other}
 use Rattle.model.proofs.Refs.{carried_upd, slots_upd, boxes_upd}
 use Rattle.model.proofs.Frames.{upd_all, alone_refs, others_count, others_slot, others_box, bare_count, assemble, quiet_step}
@@ -22,7 +22,7 @@ module _ {D : Type 0} (N M : ℕ) (s : Store D) (I : Inv N M s) (p : ℕ) (a : 1
 
   at_own : (x : Plan D) (n : ℕ) (c : Place) → s.run p ≡ Works (Makes x) c → reliance_at c ≡ relies n 0 0 n 0 1 4 → 1 ≤ n → Inv N M (own_tray (Makes x) s p n)
   at_own x n c e ec n1 =
-      cond_both (is_open (s.tray p)) (set_run (set_tray s p (Holding n)) p (Works (Makes x) (CloseTray n))) (set_run s p (Works (Makes x) (GiveBack n))) (Inv N M)
+      cond_both _ _ _ (Inv N M)
       (λ z. offered N M s I p a b (Makes x) n p c e ec n1 a b (open_is (s.tray p) z) (Works (Makes x) (CloseTray n)) refl refl refl (
         record { within = omega arith; lock_is = λ z. absurd (z refl); empty_is = λ z. absurd (z refl); one_is = λ z. absurd (z refl); bare = λ k x y. absurd (omega arith); pend_is = λ z. absurd (z refl); put_is = λ z. absurd (z refl); held_is = λ _. upd_same s.tray p (Holding n); none_given = λ k x. absurd (omega arith); given = λ k x. absurd (omega arith) },
         (good N M s I p a b (Makes x) c e).1,
@@ -33,16 +33,16 @@ module _ {D : Type 0} (N M : ℕ) (s : Store D) (I : Inv N M s) (p : ℕ) (a : 1
   at_Offer : (j : Job D) (n x : ℕ) → s.run p ≡ Works j (Offer n) → 1 ≤ x → x ≤ N → Inv N M (place_step (Offer n) j s p x)
   at_Offer (Makes y) n x e h1 h2 =
       let n1 = (good N M s I p a b (Makes y) (Offer n) e).2.0 in
-      cond_both (eqb x p) (own_tray (Makes y) s p n) (cond (is_open (s.tray x)) (set_run (set_tray s x (Holding n)) p (back (Makes y))) (set_run s p (Works (Makes y) (KeepForOneself n)))) (Inv N M)
+      cond_both _ _ _ (Inv N M)
       (λ _. at_own y n (Offer n) e refl n1)
-      (λ _. cond_both (is_open (s.tray x)) (set_run (set_tray s x (Holding n)) p (back (Makes y))) (set_run s p (Works (Makes y) (KeepForOneself n))) (Inv N M)
+      (λ _. cond_both _ _ _ (Inv N M)
       (λ z. offered N M s I p a b (Makes y) n x (Offer n) e refl n1 h1 h2 (open_is (s.tray x) z) (back (Makes y)) refl refl refl (back_good N M s I p a b (Makes y) (Offer n) e (set_tray s x (Holding n)) refl refl))
       (λ z. quiet N M s I p a b (Makes y) (Offer n) e (KeepForOneself n) refl (λ m. refl) (good N M s I p a b (Makes y) (Offer n) e).0 n1 tt))
   at_Offer Sweeps n x e h1 h2 =
       let n1 = (good N M s I p a b Sweeps (Offer n) e).2.0 in
-      cond_both (eqb x p) (set_run (set_count s n 0) p Idle) (cond (is_open (s.tray x)) (set_run (set_tray s x (Holding n)) p Idle) (set_run s p (Works Sweeps (GiveBack n)))) (Inv N M)
+      cond_both _ _ _ (Inv N M)
       (λ _. at_GiveBack N M s I p a b Sweeps n (Offer n) e refl n1)
-      (λ _. cond_both (is_open (s.tray x)) (set_run (set_tray s x (Holding n)) p Idle) (set_run s p (Works Sweeps (GiveBack n))) (Inv N M)
+      (λ _. cond_both _ _ _ (Inv N M)
       (λ z. offered N M s I p a b Sweeps n x (Offer n) e refl n1 h1 h2 (open_is (s.tray x) z) Idle refl refl refl (back_good N M s I p a b Sweeps (Offer n) e (set_tray s x (Holding n)) refl refl))
       (λ z. to_GiveBack Sweeps n (Offer n) e refl n1 tt))
 
@@ -80,7 +80,7 @@ module _ {D : Type 0} (N M : ℕ) (s : Store D) (I : Inv N M s) (p : ℕ) (a : 1
       let ce : reliance (s.run p) ≡ none = ap reliance e in
       let w = s.slot p i in
       let t = set_slot (set_inbox s q w) p i 0 in
-      cond_both (eqb (s.inbox q) 0) (set_run t p Idle) (set_run s p Idle) (Inv N M)
+      cond_both _ _ _ (Inv N M)
       (λ z. let z0 = eqb-true (s.inbox q) 0 z in
       assemble N M s I t p Idle refl refl
       (λ n x. omega (arith, I.counts n x, slots_upd N M n s.slot p i 0 a b i1 h.0, boxes_upd N M n s.inbox q w g.2.1 g.2.2, ap (λ k. is k n) z0, is_other 0 n (omega arith), carried_upd N M n s.run p Idle a b, ap (λ c. carry c n) ce))
@@ -92,7 +92,7 @@ module _ {D : Type 0} (N M : ℕ) (s : Store D) (I : Inv N M s) (p : ℕ) (a : 1
   at_fetch info i y e =
       let g : Good N M s p (Fetches i) = subst (Good N M s p) e (I.parties p a b) in
       let ce : reliance (s.run p) ≡ none = ap reliance e in
-      cond_both (eqb (s.inbox p) 0) (set_run s p Idle) (set_run s p (TakesOut i (s.inbox p))) (Inv N M)
+      cond_both _ _ _ (Inv N M)
       (λ z. at_rest Idle ce refl (no_needs N M s I p a b s))
       (λ z. at_rest (TakesOut i (s.inbox p)) ce refl (idle_claim N M s I p a b s (λ k. 0), record { into_is = g.1.into_is; source_is = λ z. absurd (z refl); wants_is = λ k z. absurd (z refl); boxed_is = λ _. refl }, (g.2, (let h : s.inbox p ≢ 0 = eqb-false (s.inbox p) 0 z in omega arith))))
 
@@ -119,9 +119,7 @@ module _ {D : Type 0} (N M : ℕ) (s : Store D) (I : Inv N M s) (p : ℕ) (a : 1
 
   place_keeps : (x : ℕ) → Given x → (c : Place) (j : Job D) → s.run p ≡ Works j c → Inv N M (place_step c j s p x)
   place_keeps x g OpenTray (Makes y) e = at_OpenTray N M s I p a b (Makes y) x e tt (g.shut (Makes y) e)
-  place_keeps x g OpenTray Sweeps e = absurd (good N M s I p a b Sweeps OpenTray e).2.1
   place_keeps x g ReadTray (Makes y) e = at_ReadTray' N M s I p a b (Makes y) e tt (λ v. tt) (s.tray p) refl
-  place_keeps x g ReadTray Sweeps e = absurd (good N M s I p a b Sweeps ReadTray e).2.1
   place_keeps x g LookForNode (Makes y) e = at_LookForNode N M s I p a b (Makes y) x e (g.node (Makes y) e).0 (g.node (Makes y) e).1 tt
   place_keeps x g LookForNode Sweeps e = at_LookForNode N M s I p a b Sweeps x e (g.node Sweeps e).0 (g.node Sweeps e).1 tt
   place_keeps x g (LockNode n) (Makes y) e = at_LockNode N M s I p a b (Makes y) n x e tt
@@ -143,17 +141,13 @@ module _ {D : Type 0} (N M : ℕ) (s : Store D) (I : Inv N M s) (p : ℕ) (a : 1
   place_keeps x g (Offer n) (Makes y) e = at_Offer (Makes y) n x e (g.party (Makes y) n e).0 (g.party (Makes y) n e).1
   place_keeps x g (Offer n) Sweeps e = at_Offer Sweeps n x e (g.party Sweeps n e).0 (g.party Sweeps n e).1
   place_keeps x g (KeepForOneself n) (Makes y) e = at_own y n (KeepForOneself n) e refl (good N M s I p a b (Makes y) (KeepForOneself n) e).2.0
-  place_keeps x g (KeepForOneself n) Sweeps e = absurd (good N M s I p a b Sweeps (KeepForOneself n) e).2.1
   place_keeps x g (GiveBack n) (Makes y) e = at_GiveBack N M s I p a b (Makes y) n (GiveBack n) e refl (good N M s I p a b (Makes y) (GiveBack n) e).2.0
   place_keeps x g (GiveBack n) Sweeps e = at_GiveBack N M s I p a b Sweeps n (GiveBack n) e refl (good N M s I p a b Sweeps (GiveBack n) e).2.0
   place_keeps x g (CloseTray n) (Makes y) e = at_CloseTray N M s I p a b (Makes y) n x e tt
-  place_keeps x g (CloseTray n) Sweeps e = absurd (good N M s I p a b Sweeps (CloseTray n) e).2.1
   place_keeps x g (WriteData n) (Makes y) e = at_WriteData N M s I p a b y n x e (g.slots y (WriteData n) e)
-  place_keeps x g (WriteData n) Sweeps e = absurd (good N M s I p a b Sweeps (WriteData n) e).2.1
   place_keeps x g (CountKid v k) (Makes y) e = at_CountKid N M s I p a b y v k x e
-  place_keeps x g (CountKid v k) Sweeps e = absurd (good N M s I p a b Sweeps (CountKid v k) e).2.1
   place_keeps x g (LinkKid v k w) (Makes y) e = at_LinkKid N M s I p a b y v k w x e (g.slots y (LinkKid v k w) e)
-  place_keeps x g (LinkKid v k w) Sweeps e = absurd (good N M s I p a b Sweeps (LinkKid v k w) e).2.1
+  place_keeps x g c Sweeps e = absurd (good N M s I p a b Sweeps c e).2.1
 
   -- a Turn of a call that writes: Reads, Downs and walks change no word that the invariant speaks of
   pub data Writes : Running D → Type 0 where
@@ -175,7 +169,4 @@ module _ {D : Type 0} (N M : ℕ) (s : Store D) (I : Inv N M s) (p : ℕ) (a : 1
     where
       no_idle : Writes Idle → ⊥
       no_idle z = elim z [ ]
-  keeps_at info x g (Reads y) w e = elim w [ ]
-  keeps_at info x g (GoesDown y) w e = elim w [ ]
-  keeps_at info x g (WalkReads t y) w e = elim w [ ]
-  keeps_at info x g (WalkGoesDown t y) w e = elim w [ ]
+  keeps_at info x g _ w e = elim w [ ]

@@ -1,11 +1,11 @@
 -- What an accepted Turn does, and which refusals a Turn has.
-use Rattle.std.proofs.Common.{◌≡◌, ℕ, ◌≤◌, Bool, true, false, eqb, ◌⊎◌, sym, refl, ap, ◌∙◌, subst, inl, inr}
-use Rattle.model.specs.Types.{Place, OpenTray, ReadTray, LookForNode, LockNode, Recheck, UnlockAndGoBack, ReadKid, ClearKid, UncountKid, Claim, Unlock, Offer, KeepForOneself, GiveBack, CloseTray, WriteData, CountKid, LinkKid, Plan, Job, Makes, Running, Idle, Reads, GoesDown, Keeps, Drops, Hands, Fetches, TakesOut, Works, WalkReads, WalkGoesDown, Outcome, StillRunning, Ended, Told, Tells, Settles, Decision}
+use Rattle.std.proofs.Common.{◌≡◌, ℕ, ◌≤◌, true, false, eqb, ◌⊎◌, sym, refl, ap, ◌∙◌, subst, inl, inr}
+use Rattle.model.specs.Types.{Ok, Place, OpenTray, Plan, Job, Makes, Running, Works, Outcome, StillRunning, Ended, Told, Tells, Settles, Decision}
 use Rattle.model.specs.State.{Store, last}
 use Rattle.model.specs.Steps.{decision, stepped, loaded, looks_at, written, changed}
 use Rattle.model.specs.Checks.{is_idle}
-use Rattle.model.specs.Setting.{Meaning, Setting}
-use Rattle.model.specs.Runs.{System, asks_nodes, asks_parties, Asks, moved_as, Steps, is_end}
+use Rattle.model.specs.Setting.{Setting}
+use Rattle.model.specs.Runs.{System, asks_nodes, asks_parties, moved_as, Steps, is_end}
 use Rattle.model.proofs.Explicit.{place_step, turn_at}
 use Rattle.model.proofs.Sums.{upd_same}
 use Rattle.model.proofs.Tells.{TellsAtOnce, IsFourth, tells_at_once}
@@ -19,40 +19,18 @@ use Rattle.model.proofs.MakeTells.{goes, ends, make_tells}
 -- Which order a place asks.
 
 pub asks_nodes_at : {D : Type 0} (j : Job D) (c : Place) → asks_nodes (Works j c) ≡ eqb (asks_at c) 1
-asks_nodes_at j c = elim c as (λ v. asks_nodes (Works j v) ≡ eqb (asks_at v) 1) [ OpenTray ↦ refl | ReadTray ↦ refl | LookForNode ↦ refl | LockNode n ↦ refl | Recheck n ↦ refl | UnlockAndGoBack n ↦ refl | ReadKid n k ↦ refl | ClearKid n k w ↦ refl | UncountKid n k w ↦ refl | Claim n ↦ refl | Unlock n ↦ refl | Offer n ↦ refl | KeepForOneself n ↦ refl | GiveBack n ↦ refl | CloseTray n ↦ refl | WriteData n ↦ refl | CountKid v k ↦ refl | LinkKid v k w ↦ refl ]
+asks_nodes_at j c = elim c as (λ v. asks_nodes (Works j v) ≡ eqb (asks_at v) 1) [ OpenTray ↦ refl | _ ↦ refl ]
 
 pub asks_parties_at : {D : Type 0} (j : Job D) (c : Place) → asks_parties (Works j c) ≡ eqb (asks_at c) 2
-asks_parties_at j c = elim c as (λ v. asks_parties (Works j v) ≡ eqb (asks_at v) 2) [ OpenTray ↦ refl | ReadTray ↦ refl | LookForNode ↦ refl | LockNode n ↦ refl | Recheck n ↦ refl | UnlockAndGoBack n ↦ refl | ReadKid n k ↦ refl | ClearKid n k w ↦ refl | UncountKid n k w ↦ refl | Claim n ↦ refl | Unlock n ↦ refl | Offer n ↦ refl | KeepForOneself n ↦ refl | GiveBack n ↦ refl | CloseTray n ↦ refl | WriteData n ↦ refl | CountKid v k ↦ refl | LinkKid v k w ↦ refl ]
+asks_parties_at j c = elim c as (λ v. asks_parties (Works j v) ≡ eqb (asks_at v) 2) [ OpenTray ↦ refl | _ ↦ refl ]
 
 pub no_nodes_asked : {D : Type 0} (r : Running D) → NoJob r → asks_nodes r ≡ false
-no_nodes_asked Idle h = refl
-no_nodes_asked (Reads g) h = refl
-no_nodes_asked (GoesDown k) h = refl
-no_nodes_asked (WalkReads t g) h = refl
-no_nodes_asked (WalkGoesDown t k) h = refl
 no_nodes_asked (Works j c) h = absurd h
-no_nodes_asked (Keeps i) h = refl
-no_nodes_asked (Drops i) h = refl
-no_nodes_asked (Fetches i) h = refl
-no_nodes_asked (Hands i q) h = refl
-no_nodes_asked (TakesOut i v) h = refl
+no_nodes_asked _ h = refl
 
 pub no_parties_asked : {D : Type 0} (r : Running D) → NoJob r → asks_parties r ≡ false
-no_parties_asked Idle h = refl
-no_parties_asked (Reads g) h = refl
-no_parties_asked (GoesDown k) h = refl
-no_parties_asked (WalkReads t g) h = refl
-no_parties_asked (WalkGoesDown t k) h = refl
 no_parties_asked (Works j c) h = absurd h
-no_parties_asked (Keeps i) h = refl
-no_parties_asked (Drops i) h = refl
-no_parties_asked (Fetches i) h = refl
-no_parties_asked (Hands i q) h = refl
-no_parties_asked (TakesOut i v) h = refl
-
-pub span_kept : {O : Type 0} (m : Meaning O) (asked : Bool) (old later : O) (p x : ℕ) → Asks m asked old later p x → m.horizon later ≡ m.horizon old
-span_kept m true old later p x a = (a.picks refl).span_stays
-span_kept m false old later p x a = ap m.horizon (a.rests refl)
+no_parties_asked _ h = refl
 
 module _ {D W A B : Type 0} (X : Setting D W A B) where
   -- What an accepted Turn does.
@@ -66,7 +44,7 @@ module _ {D W A B : Type 0} (X : Setting D W A B) where
 
     told_at_once : (t : Told D W) → TellsAtOnce t → (moved_as X F q T.pick here t).store ≡ stepped_here
     told_at_once (Tells o') h = refl
-    told_at_once (Settles t e ks) h = absurd h
+    told_at_once (Settles n) h = absurd h
 
     -- a step of a Make or Sweep is the explicit one
     pub job_step : (j : Job D) (c : Place) → F.store.run q ≡ Works j c → G.store ≡ place_step c j F.store q T.pick
@@ -81,7 +59,7 @@ module _ {D W A B : Type 0} (X : Setting D W A B) where
     -- a step of a call that is no Make and no Sweep
     calm_told : (t : Told D W) → waits F.store.count (F.store.run q) ≡ 1 → Calm F.store stepped_here q → Calm F.store (moved_as X F q T.pick here t).store q
     calm_told (Tells o') w c = c
-    calm_told (Settles t e ks) w c = calm_settled F.store q w X.worth X.blank (F.notes q) t ks
+    calm_told (Settles n) w c = calm_settled F.store q w X.worth X.blank (F.notes q) n.situation n.kids
 
     pub calm_step : NoJob (F.store.run q) → Calm F.store G.store q
     calm_step h = subst (λ t. Calm F.store t q) (sym T.store_is)
@@ -95,8 +73,8 @@ module _ {D W A B : Type 0} (X : Setting D W A B) where
     next_here u t = ap (λ s. is_idle (s.run q)) (T.store_is ∙ ap (λ t. (moved_as X F q T.pick here t).store) t) ∙ ap is_idle (upd_same before.run q here.next)
 
     -- a Make runs on, or has ended
-    pub making_tells : (plan : Plan D) (c : Place) → F.store.run q ≡ Works (Makes plan) c → ((o ≡ StillRunning) × (is_idle (G.store.run q) ≡ false)) ⊎ ((is_end o ≡ true) × (is_idle (G.store.run q) ≡ true))
+    pub making_tells : (plan : Plan D) (c : Place) → F.store.run q ≡ Works (Makes plan) c → ((o ≡ Ok StillRunning) × (is_idle (G.store.run q) ≡ false)) ⊎ ((is_end o ≡ true) × (is_idle (G.store.run q) ≡ true))
     making_tells plan c e = elim (make_tells W X.parties X.nodes F.store F.info plan q T.pick c e) [
-      | goes t i ↦ inl (told_outcome StillRunning t, next_here StillRunning t ∙ i)
-      | ends x t i ↦ inr (ap is_end (told_outcome (Ended x) t), next_here (Ended x) t ∙ i)
+      | goes t i ↦ inl (told_outcome (Ok StillRunning) t, next_here (Ok StillRunning) t ∙ i)
+      | ends x t i ↦ inr (ap is_end (told_outcome (Ok (Ended x)) t), next_here (Ok (Ended x)) t ∙ i)
     ]

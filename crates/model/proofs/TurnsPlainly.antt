@@ -1,14 +1,14 @@
 -- The plain store follows every Turn.
 use Rattle.std.proofs.Common.{◌≡◌, ℕ, ◌≤◌, Bool, true, false, cond, eqb, ◌≢◌, [], ◌∷◌, Some, None, sym, refl, ap, ◌∙◌, subst, inl, inr, true≢false}
 use Rattle.std.proofs.lemmas.Bool.{cases_eq, cond-true, cond_both}
-use Rattle.model.specs.Types.{Kids, ReadNothing, Running, Idle, Reads, GoesDown, Keeps, Drops, Hands, Fetches, TakesOut, Works, WalkReads, WalkGoesDown, AsksWalk, Outcome, Told, Tells, Settles, Decision, Situation}
+use Rattle.model.specs.Types.{Lengths, Event, Turns, WalkTurns, Kids, ReadNothing, Running, WalkReads, WalkGoesDown, AsksWalk, Outcome, Told, Tells, Settles, Decision, Situation}
 use Rattle.model.specs.State.{kid_at, no_trail, longer, Store, set_trail, set_run, last}
 use Rattle.model.specs.Steps.{decision, data_after}
-use Rattle.model.specs.Checks.{Lengths, is_idle, is_walking, turn_fault, walk_turn_fault}
+use Rattle.model.specs.Checks.{is_idle, is_walking, turn_fault, walk_turn_fault}
 use Rattle.model.specs.Walks.{Notes, first_unmarked, gone_up, settled_store}
 use Rattle.model.specs.Setting.{Setting}
 use Rattle.model.specs.Plain.{Plain, Ask, PlainRun, ends as none_left, next}
-use Rattle.model.specs.Runs.{System, Event, turns, walk_turns, moved_as, moved, Steps, Moves, turn, walk_turn, is_end}
+use Rattle.model.specs.Runs.{System, moved_as, moved, Steps, Moves, turn, walk_turn, is_end}
 use Rattle.model.specs.Opened.{Agrees, Underway, Opened}
 use Rattle.model.proofs.Explicit.{turn_at}
 use Rattle.model.proofs.Stepped.{fit_of}
@@ -75,7 +75,7 @@ module _ {D W A B : Type 0} (X : Setting D W A B) where
         (own_along X H G t p (asked p) (told_at (s.run p) s p x) (sym es) (sym ei) (own_turn X F t O.agrees O.sound p a b (asked p) x (s.run p) refl w running pk (O.underway p a b)))
 
     pub turn_plainly : (l : Lengths) → turn_fault X.parties X.nodes p l (F.store.run p) ≡ None → is_walking (F.store.run p) ≡ false → Turned
-    turn_plainly l h w = turned (turns p l) (turn h T) false (call_turned w)
+    turn_plainly l h w = turned (Turns p l) (turn h T) false (call_turned w)
 
     -- a walk's turn writes no shared word
     record Untouched (s : Store D) (info : ℕ → D) : Type 0 where
@@ -88,20 +88,12 @@ module _ {D W A B : Type 0} (X : Setting D W A B) where
     on_run r = record { kids = refl; slots = refl; boxes = refl; same = refl }
 
     walk_step : (r : Running D) → is_walking r ≡ true → Untouched (turn_at r F.store F.info p T.pick) (data_at r F.info)
-    walk_step Idle w = absurd (true≢false (sym w))
-    walk_step (Reads g) w = absurd (true≢false (sym w))
-    walk_step (GoesDown k) w = absurd (true≢false (sym w))
-    walk_step (Keeps i) w = absurd (true≢false (sym w))
-    walk_step (Drops i) w = absurd (true≢false (sym w))
-    walk_step (Hands i q) w = absurd (true≢false (sym w))
-    walk_step (Fetches i) w = absurd (true≢false (sym w))
-    walk_step (TakesOut i v) w = absurd (true≢false (sym w))
-    walk_step (Works j c) w = absurd (true≢false (sym w))
     walk_step (WalkReads u g) w = record { kids = refl; slots = refl; boxes = refl; same = refl }
     walk_step (WalkGoesDown u k) w =
         let n = kid_at (F.store.kids (last F.store p)) k in
         cond_both (eqb n 0) F.store (set_trail F.store p (longer (F.store.trail p) n)) (λ s. Untouched (set_run s p (WalkReads u ReadNothing)) F.info) (λ _. on_run (WalkReads u ReadNothing))
         (λ _. record { kids = refl; slots = refl; boxes = refl; same = refl })
+    walk_step _ w = absurd (true≢false (sym w))
 
     settled_untouched : (notes : Notes W) (u : Situation) (ks : Kids) → Untouched (settled_store X.worth X.blank F.store notes p u ks) F.info
     settled_untouched notes u ks =
@@ -114,7 +106,7 @@ module _ {D W A B : Type 0} (X : Setting D W A B) where
     moved_untouched w (Tells v) =
         subst (λ s. Untouched s (data_after X.parties X.nodes F.store F.info p T.pick here)) (sym explicit)
         (subst (Untouched (turn_at (F.store.run p) F.store F.info p T.pick)) (sym (data_after_lem W X.parties X.nodes F.store F.info p T.pick)) (walk_step (F.store.run p) w))
-    moved_untouched w (Settles u v ks) = settled_untouched (F.notes p) u ks
+    moved_untouched w (Settles n) = settled_untouched (F.notes p) n.situation n.kids
 
     -- a walk's turn
     module _ (w : is_walking (F.store.run p) ≡ true) where
@@ -145,4 +137,4 @@ module _ {D W A B : Type 0} (X : Setting D W A B) where
           ]
 
       pub walk_turn_plainly : (l : Lengths) → walk_turn_fault X.parties X.nodes p l (F.store.run p) ≡ None → Turned
-      walk_turn_plainly l h = turned (walk_turns p l) (walk_turn h T) true walk_own
+      walk_turn_plainly l h = turned (WalkTurns p l) (walk_turn h T) true walk_own

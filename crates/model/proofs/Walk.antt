@@ -1,8 +1,9 @@
 -- A walk's turn over a term: what is marked stays right, and each turn is counted.
-use Rattle.std.proofs.Common.{◌≡◌, ℕ, zero, suc, ◌+◌, ◌*◌, ◌<◌, ◌≤◌, Bool, true, false, cond, not, ◌&&◌, eqb, ◌≢◌, List, [], ◌∷◌, length, Some, None, Option, sym, refl, ap, ◌∙◌, subst, inl, inr, true≢false, arith}
-use Rattle.std.proofs.lemmas.Bool.{cases_eq, cases_Bool, eq-eqb, ne_eqb, cond-true, cond-false}
-use Rattle.model.specs.Fun.{upd, sum_to}
-use Rattle.model.specs.Types.{Kid, First, Second, Third, Kids, Running, Idle, Reads, GoesDown, WalkReads, WalkGoesDown, Works, Keeps, Drops, Fetches, Hands, TakesOut, ReadNothing, ReadData, ReadFirst, ReadSecond, Outcome, StillRunning, Ended, WorthIs, Situation}
+use Rattle.std.proofs.Common.{◌≡◌, ℕ, suc, ◌+◌, ◌*◌, ◌<◌, ◌≤◌, Bool, true, false, cond, not, ◌&&◌, eqb, ◌≢◌, List, [], ◌∷◌, length, Some, None, Option, sym, refl, ap, ◌∙◌, subst, inl, inr, true≢false, arith}
+use Rattle.std.proofs.lemmas.Bool.{and_parts, and_cases, eqb-true, eqb-false, not-true, not-false, cases_eq, cases_Bool, eq-eqb, ne_eqb, cond-true, cond-false}
+use Rattle.std.specs.List.{AllByRecursion}
+use Rattle.model.specs.Fun.{upd}
+use Rattle.model.specs.Types.{Ok, Kid, First, Second, Third, Kids, Running, Idle, WalkReads, WalkGoesDown, ReadNothing, ReadData, ReadFirst, ReadSecond, Outcome, StillRunning, Ended, WorthIs, Situation}
 use Rattle.model.specs.State.{kid_at, Trail, no_trail, along, last_of, longer, shorter}
 use Rattle.model.specs.Checks.{is_idle}
 use Rattle.model.specs.Reach.{Below, kid, deeper, InTerm, Chain}
@@ -11,27 +12,19 @@ use Rattle.model.specs.Walks.{Notes, marked, resumes, unmarked, first_unmarked, 
 use Rattle.model.specs.Plain.{WorksOut, missing, worked, TermHas}
 use Rattle.model.specs.Opened.{ReadSoFar}
 use Rattle.model.specs.Existing.{trail_length}
-use Rattle.model.proofs.Sums.{upd_same, upd_other}
+use Rattle.model.proofs.Sums.{upd_same, upd_other, sum_to_none}
 use Rattle.model.proofs.Refs.{sum_upd}
 use Rattle.model.proofs.Frames.{upd_all}
-use Rattle.model.proofs.Paths.{Every, every_zip, chain_in, chain_all_in, chain_distinct, pigeon}
+use Rattle.model.proofs.Paths.{every_zip, chain_in, chain_all_in, chain_distinct, pigeon}
 use Rattle.model.proofs.Worths.{SameTerm, term_there, worth_there}
 
-one_if : (b : Bool) → b ≡ true → ◌≡◌ {A = ℕ} (cond b 1 0) 1
-one_if b e = cond-true b 1 0 e
-
-zero_if : (b : Bool) → b ≡ false → ◌≡◌ {A = ℕ} (cond b 1 0) 0
-zero_if b e = cond-false b 1 0 e
-
 pub none_marked : (M : ℕ) → marked M (λ n. false) ≡ 0
-unfolding sum_to
-none_marked zero = refl
-none_marked (suc m) = let u = none_marked m in omega arith
+none_marked M = sum_to_none M (λ n. 0) (λ n a b. refl)
 
 one_more : (M : ℕ) (marks : ℕ → Bool) (n : ℕ) → 1 ≤ n → n ≤ M → marks n ≡ false → marked M (upd marks n true) ≡ marked M marks + 1
 one_more M marks n a b e =
     let u = sum_upd M (λ v. cond v 1 0) marks n true a b in
-    let w = zero_if (marks n) e in
+    let w = cond-false {A = ℕ} (marks n) 1 0 e in
     omega arith
 
 still_marked : (marks : ℕ → Bool) (n x : ℕ) → marks x ≡ true → upd marks n true x ≡ true
@@ -39,12 +32,10 @@ still_marked marks n x h = upd_all (λ k b. b ≡ true) marks n true refl x (λ 
 
 -- a kid that is to be gone down to, or is not
 is_unmarked : (n : ℕ) (b : Bool) → not (eqb n 0) && not b ≡ true → (n ≢ 0) × (b ≡ false)
-is_unmarked n true e = elim (cases_Bool (eqb n 0)) [ inl f ↦ absurd (true≢false (sym e ∙ ap (λ v. not v && false) f)) | inr f ↦ absurd (true≢false (sym e ∙ ap (λ v. not v && false) f)) ]
-is_unmarked n false e = (λ z. true≢false (sym e ∙ ap (λ v. not v && true) (eq-eqb n 0 z)), refl)
+is_unmarked n b e = let u = and_parts (not (eqb n 0)) (not b) e in (eqb-false n 0 (not-true (eqb n 0) u.0), not-true b u.1)
 
 is_marked : (n : ℕ) (b : Bool) → not (eqb n 0) && not b ≡ false → n ≢ 0 → b ≡ true
-is_marked n true e z = refl
-is_marked n false e z = absurd (true≢false (sym (ap (λ v. not v && true) (ne_eqb n 0 z)) ∙ e))
+is_marked n b e z = elim (and_cases (not (eqb n 0)) (not b) e) [ inl u ↦ absurd (z (eqb-true n 0 (not-false (eqb n 0) u))) | inr u ↦ not-false b u ]
 
 -- the first unmarked kid is one; where there is none, every kid is marked
 abbrev FirstUnmarkedIs : {W : Type 0} → Notes W → Kids → Option Kid → Type 0
@@ -67,20 +58,11 @@ first_unmarked_lem notes ks = choose (unmarked notes ks.first) (unmarked notes k
 
 -- how far a walk is at its node: so many of four readings, or before a Down
 abbrev pub stage : {D : Type 0} → Running D → ℕ
-stage Idle = 0
-stage (Reads g) = 0
-stage (GoesDown k) = 0
-stage (WalkReads t ReadNothing) = 0
 stage (WalkReads t (ReadData d)) = 1
 stage (WalkReads t (ReadFirst d i)) = 2
 stage (WalkReads t (ReadSecond d i j)) = 3
 stage (WalkGoesDown t k) = 4
-stage (Works j c) = 0
-stage (Keeps i) = 0
-stage (Drops i) = 0
-stage (Fetches i) = 0
-stage (Hands i q) = 0
-stage (TakesOut i v) = 0
+stage _ = 0
 
 -- all that a walk looks at: the root is the node of its slot
 pub record View (D W : Type 0) : Type 0 where
@@ -93,13 +75,13 @@ pub record View (D W : Type 0) : Type 0 where
 
 module _ {D W : Type 0} where
   abbrev pub with_run : View D W → Running D → View D W
-  with_run v r = record { kids = v.kids; info = v.info; root = v.root; trail = v.trail; run = r; notes = v.notes }
+  with_run v r = record v { run = r }
 
   abbrev pub with_down : View D W → ℕ → Running D → View D W
-  with_down v n r = record { kids = v.kids; info = v.info; root = v.root; trail = longer v.trail n; run = r; notes = v.notes }
+  with_down v n r = record v { trail = longer v.trail n; run = r }
 
   abbrev pub with_up : View D W → Situation → Notes W → View D W
-  with_up v u notes = record { kids = v.kids; info = v.info; root = v.root; trail = shorter v.trail; run = resumes u (shorter v.trail); notes = notes }
+  with_up v u notes = record v { trail = shorter v.trail; run = resumes u (shorter v.trail); notes = notes }
 
   -- so many turns, plus 5, has a walk had
   abbrev pub spent : ℕ → View D W → ℕ
@@ -114,17 +96,9 @@ module _ {D W : Type 0} (worth : D → Situation → W → W → W → W) (blank
 
   -- what is known at a walk's place: n is the last node
   abbrev pub PlaceRight : (ℕ → Kids) → (ℕ → D) → (ℕ → Bool) → ℕ → Running D → Type 0
-  PlaceRight kids info marks n Idle = ⊥
-  PlaceRight kids info marks n (Reads g) = ⊥
-  PlaceRight kids info marks n (GoesDown k) = ⊥
   PlaceRight kids info marks n (WalkReads u g) = (u ≡ t) × ReadSoFar (info n) (kids n) g
   PlaceRight kids info marks n (WalkGoesDown u k) = (u ≡ t) × (kid_at (kids n) k ≢ 0) × (marks (kid_at (kids n) k) ≡ false)
-  PlaceRight kids info marks n (Works j c) = ⊥
-  PlaceRight kids info marks n (Keeps i) = ⊥
-  PlaceRight kids info marks n (Drops i) = ⊥
-  PlaceRight kids info marks n (Fetches i) = ⊥
-  PlaceRight kids info marks n (Hands i q) = ⊥
-  PlaceRight kids info marks n (TakesOut i v) = ⊥
+  PlaceRight kids info marks n _ = ⊥
 
   -- a walk under way, entered at the slot i
   pub record Standing (i : ℕ) (v : View D W) : Type 0 where
@@ -132,7 +106,7 @@ module _ {D W : Type 0} (worth : D → Situation → W → W → W → W) (blank
     pub before : List ℕ
     pub entered : v.trail ≡ along i at before
     pub chain : Chain v.kids v.root at before
-    pub to_come : Every (λ n. v.notes.marks n ≡ false) (at ∷ before)
+    pub to_come : AllByRecursion (λ n. v.notes.marks n ≡ false) (at ∷ before)
     pub rightly : MarkedRight v.kids v.info v.root v.notes
     pub place : PlaceRight v.kids v.info v.notes.marks at v.run
 
@@ -158,17 +132,9 @@ module _ {D W : Type 0} (worth : D → Situation → W → W → W → W) (blank
       chain_there n (m ∷ ns) c = ((c.0.0, ap (λ u. kid_at u c.0.0) (A m (chain_in v.kids v.root m ns c.1)).0 ∙ c.0.1, c.0.2), chain_there m ns c.1)
 
       place_there : (n : ℕ) (r : Running D) → (kids' n ≡ v.kids n) × (info' n ≡ v.info n) → PlaceRight v.kids v.info v.notes.marks n r → PlaceRight kids' info' v.notes.marks n r
-      place_there n Idle e h = h
-      place_there n (Reads g) e h = h
-      place_there n (GoesDown k) e h = h
       place_there n (WalkReads u g) e h = (h.0, subst (λ d. ReadSoFar d (kids' n) g) (sym e.1) (subst (λ ks. ReadSoFar (v.info n) ks g) (sym e.0) h.1))
       place_there n (WalkGoesDown u k) e h = let d : kid_at (kids' n) k ≡ kid_at (v.kids n) k = ap (λ ks. kid_at ks k) e.0 in (h.0, (λ z. h.1 (sym d ∙ z)), ap v.notes.marks d ∙ h.2)
-      place_there n (Works j c) e h = h
-      place_there n (Keeps i) e h = h
-      place_there n (Drops i) e h = h
-      place_there n (Fetches i) e h = h
-      place_there n (Hands i q) e h = h
-      place_there n (TakesOut i w) e h = h
+      place_there n _ e h = h
 
   module _ (v : View D W) where
     abbrev kids_read : ℕ → ℕ → Kids
@@ -183,28 +149,20 @@ module _ {D W : Type 0} (worth : D → Situation → W → W → W → W) (blank
 
     -- what a walk's turn makes of it, and what it tells
     abbrev pub after_turn : Running D → View D W
-    after_turn Idle = v
-    after_turn (Reads g) = v
-    after_turn (GoesDown k) = v
     after_turn (WalkReads u ReadNothing) = with_run v (WalkReads u (ReadData (v.info (last_of v.trail))))
     after_turn (WalkReads u (ReadData d)) = with_run v (WalkReads u (ReadFirst d (v.kids (last_of v.trail)).first))
     after_turn (WalkReads u (ReadFirst d a)) = with_run v (WalkReads u (ReadSecond d a (v.kids (last_of v.trail)).second))
     after_turn (WalkReads u (ReadSecond d a b)) = settled_as u d (kids_read a b) (first_unmarked v.notes (kids_read a b))
     after_turn (WalkGoesDown u k) = with_down v (kid_at (v.kids (last_of v.trail)) k) (WalkReads u ReadNothing)
-    after_turn (Works j c) = v
-    after_turn (Keeps i) = v
-    after_turn (Drops i) = v
-    after_turn (Fetches i) = v
-    after_turn (Hands i q) = v
-    after_turn (TakesOut i w) = v
+    after_turn _ = v
 
     abbrev pub tells_of : View D W → Outcome D W
-    tells_of v' = cond (is_idle v'.run) (Ended (WorthIs (v'.notes.worths (last_of v.trail)) (marked M v'.notes.marks))) StillRunning
+    tells_of v' = cond (is_idle v'.run) (Ok (Ended (WorthIs (v'.notes.worths (last_of v.trail)) (marked M v'.notes.marks)))) (Ok StillRunning)
 
     -- a walk's turn goes on, or is its last
     pub data Turned (i : ℕ) (v' : View D W) : Outcome D W → Type 0 where
-      goes_on : {o : Outcome D W} → o ≡ StillRunning → Standing i v' → spent M v' ≡ spent M v + 1 → Turned i v' o
-      ends : {o : Outcome D W} (w : W) (m : ℕ) → o ≡ Ended (WorthIs w m) → WorksOut worth blank v.kids v.info t v.root w → TermHas M v.kids v.root m
+      goes_on : {o : Outcome D W} → o ≡ Ok StillRunning → Standing i v' → spent M v' ≡ spent M v + 1 → Turned i v' o
+      ends : {o : Outcome D W} (w : W) (m : ℕ) → o ≡ Ok (Ended (WorthIs w m)) → WorksOut worth blank v.kids v.info t v.root w → TermHas M v.kids v.root m
           → v'.run ≡ Idle → v'.trail ≡ no_trail → spent M v + 1 ≡ 9 * m → Turned i v' o
 
   -- once the root is marked, just its term is
@@ -222,8 +180,8 @@ module _ {D W : Type 0} (worth : D → Situation → W → W → W → W) (blank
       counts = λ n. cond (notes.marks n) 1 0;
       total = refl;
       each = λ x a b. elim (cases_Bool (notes.marks x)) [
-        | inl e ↦ inl (one_if (notes.marks x) e, V.of_term x e)
-        | inr e ↦ inr (zero_if (notes.marks x) e, λ i. true≢false (sym (term_marked h x i) ∙ e))
+        | inl e ↦ inl (cond-true {A = ℕ} (notes.marks x) 1 0 e, V.of_term x e)
+        | inr e ↦ inr (cond-false {A = ℕ} (notes.marks x) 1 0 e, λ i. true≢false (sym (term_marked h x i) ∙ e))
       ];
     }
 
@@ -255,16 +213,16 @@ module _ {D W : Type 0} (worth : D → Situation → W → W → W → W) (blank
 
     -- marked nodes and those of the trail are different nodes of the term
     path_fits : Ranked kids → ((x : ℕ) → InTerm kids r x → (1 ≤ x) × (x ≤ M)) → (m top : ℕ) (rest : List ℕ) → TermHas M kids r m → Chain kids r top rest
-        → Every (λ x. notes.marks x ≡ false) (top ∷ rest) → marked M notes.marks + length (top ∷ rest) ≤ m
+        → AllByRecursion (λ x. notes.marks x ≡ false) (top ∷ rest) → marked M notes.marks + length (top ∷ rest) ≤ m
     path_fits R low m top rest S ch fr =
         let one : (x : ℕ) → InTerm kids r x → 1 ≤ S.counts x = λ x i. (let l = low x i in elim (S.each x l.0 l.1) [ inl h ↦ (let e = h.0 in omega arith) | inr h ↦ absurd (h.1 i) ]) in
         let u = pigeon M (top ∷ rest) (λ n. cond (notes.marks n) 1 0) S.counts (chain_distinct kids R r top rest ch)
         (λ n a b. elim (cases_Bool (notes.marks n)) [
-          | inl e ↦ (let h = one n (V.of_term n e) in let g = one_if (notes.marks n) e in omega arith)
-          | inr e ↦ (let g = zero_if (notes.marks n) e in omega arith)
+          | inl e ↦ (let h = one n (V.of_term n e) in let g = cond-true {A = ℕ} (notes.marks n) 1 0 e in omega arith)
+          | inr e ↦ (let g = cond-false {A = ℕ} (notes.marks n) 1 0 e in omega arith)
         ])
         (every_zip (λ x. notes.marks x ≡ false) (InTerm kids r) (λ x. (1 ≤ x) × (x ≤ M) × (◌≡◌ {A = ℕ} (cond (notes.marks x) 1 0) 0) × (1 ≤ S.counts x))
-        (λ x e i. ((low x i).0, (low x i).1, zero_if (notes.marks x) e, one x i)) (top ∷ rest) fr (chain_all_in kids r top rest ch)) in
+        (λ x e i. ((low x i).0, (low x i).1, cond-false {A = ℕ} (notes.marks x) 1 0 e, one x i)) (top ∷ rest) fr (chain_all_in kids r top rest ch)) in
         let e = S.total in omega arith
 
   -- a walk that begins
@@ -295,9 +253,6 @@ module _ {D W : Type 0} (worth : D → Situation → W → W → W → W) (blank
         here = let h = path_fits v.kids v.info v.root v.notes S.rightly R low m S.at S.before T S.chain S.to_come in let e = length_is in omega arith
 
         bound : (r : Running D) → PlaceRight v.kids v.info v.notes.marks S.at r → 9 * marked M v.notes.marks + 5 * trail_length v.trail + stage r < 9 * m
-        bound Idle h = absurd h
-        bound (Reads g) h = absurd h
-        bound (GoesDown k) h = absurd h
         bound (WalkReads u ReadNothing) h = let g = here in let e = length_is in omega arith
         bound (WalkReads u (ReadData d)) h = let g = here in let e = length_is in omega arith
         bound (WalkReads u (ReadFirst d a)) h = let g = here in let e = length_is in omega arith
@@ -306,16 +261,11 @@ module _ {D W : Type 0} (worth : D → Situation → W → W → W → W) (blank
             let n = kid_at (v.kids S.at) k in
             let g = path_fits v.kids v.info v.root v.notes S.rightly R low m n (S.at ∷ S.before) T ((k, refl, h.1), S.chain) (h.2, S.to_come) in
             let e = length_is in omega arith
-        bound (Works j c) h = absurd h
-        bound (Keeps j) h = absurd h
-        bound (Drops j) h = absurd h
-        bound (Fetches j) h = absurd h
-        bound (Hands j q) h = absurd h
-        bound (TakesOut j w) h = absurd h
+        bound _ h = absurd h
 
     -- the call moves on at the node
     moves_on : (r r' : Running D) → v.run ≡ r → PlaceRight v.kids v.info v.notes.marks S.at r' → stage r' ≡ stage r + 1 → is_idle r' ≡ false → Turned v i (with_run v r') (tells_of v (with_run v r'))
-    moves_on r r' e h k z = goes_on (cond-false (is_idle r') _ StillRunning z)
+    moves_on r r' e h k z = goes_on (cond-false (is_idle r') _ (Ok StillRunning) z)
         (record { at = S.at; before = S.before; entered = S.entered; chain = S.chain; to_come = S.to_come; rightly = S.rightly; place = h })
         (let q : stage v.run ≡ stage r = ap stage e in omega arith)
 
@@ -360,7 +310,7 @@ module _ {D W : Type 0} (worth : D → Situation → W → W → W → W) (blank
         more : marked M (noted_here v u d ks).marks ≡ marked M v.notes.marks + 1
         more = ap (λ n. marked M n.marks) noted_is ∙ one_more M v.notes.marks S.at (low S.at inside).0 (low S.at inside).1 S.to_come.0
 
-        up : (ns : List ℕ) → v.trail ≡ along i S.at ns → Chain v.kids v.root S.at ns → Every (λ n. v.notes.marks n ≡ false) (S.at ∷ ns)
+        up : (ns : List ℕ) → v.trail ≡ along i S.at ns → Chain v.kids v.root S.at ns → AllByRecursion (λ n. v.notes.marks n ≡ false) (S.at ∷ ns)
             → Turned v i (with_up v u (noted_here v u d ks)) (tells_of v (with_up v u (noted_here v u d ks)))
         up [] et ch fr =
             let short : shorter v.trail ≡ no_trail = ap shorter et in
@@ -369,7 +319,7 @@ module _ {D W : Type 0} (worth : D → Situation → W → W → W → W) (blank
             let is-noted : (noted_here v u d ks).marks v.root ≡ true = ap (noted_here v u d ks).marks (sym root) ∙ upd_same v.notes.marks (last_of v.trail) true in
             let still : resumes {D = D} u (shorter v.trail) ≡ Idle = ap (resumes u) short in
             ends ((noted_here v u d ks).worths (last_of v.trail)) (marked M (noted_here v u d ks).marks)
-            (cond-true (is_idle (resumes {D = D} u (shorter v.trail))) _ StillRunning (ap is_idle still))
+            (cond-true (is_idle (resumes {D = D} u (shorter v.trail))) _ (Ok StillRunning) (ap is_idle still))
             (subst (λ n. WorksOut worth blank v.kids v.info t v.root ((noted_here v u d ks).worths n)) (sym root) (now.right v.root is-noted))
             (term_has_marked v.kids v.info v.root (noted_here v u d ks) now is-noted)
             still short
@@ -381,13 +331,13 @@ module _ {D W : Type 0} (worth : D → Situation → W → W → W → W) (blank
             let on : resumes {D = D} u (shorter v.trail) ≡ WalkReads u ReadNothing = ap (resumes u) short in
             let stage' : stage (resumes {D = D} u (shorter v.trail)) ≡ 0 = ap stage on in
             let ds = chain_distinct v.kids R v.root S.at (m ∷ ms) ch in
-            goes_on (cond-false (is_idle (resumes {D = D} u (shorter v.trail))) _ StillRunning (ap is_idle on))
+            goes_on (cond-false (is_idle (resumes {D = D} u (shorter v.trail))) _ (Ok StillRunning) (ap is_idle on))
             (record {
               at = m;
               before = ms;
               entered = short;
               chain = ch.1;
-              to_come = subst (λ n. Every (λ y. n.marks y ≡ false) (m ∷ ms)) (sym noted_is)
+              to_come = subst (λ n. AllByRecursion (λ y. n.marks y ≡ false) (m ∷ ms)) (sym noted_is)
                   (every_zip (λ y. y ≢ S.at) (λ y. v.notes.marks y ≡ false) (λ y. upd v.notes.marks S.at true y ≡ false) (λ y z e. upd_other v.notes.marks S.at y true z ∙ e) (m ∷ ms) ds.0 fr.1);
               rightly = now;
               place = subst (PlaceRight v.kids v.info (noted_here v u d ks).marks m) (sym on) (eu, tt);
@@ -418,15 +368,7 @@ module _ {D W : Type 0} (worth : D → Situation → W → W → W → W) (blank
     turned_at (WalkReads u (ReadFirst d a)) e h = moves_on (WalkReads u (ReadFirst d a)) (WalkReads u (ReadSecond d a (v.kids (last_of v.trail)).second)) e (h.0, (h.1.0, h.1.1, ap (λ n. (v.kids n).second) last_is)) refl refl
     turned_at (WalkReads u (ReadSecond d a b)) e h = has_read u d a b e
     turned_at (WalkGoesDown u k) e h = goes_down u k e
-    turned_at Idle e h = absurd h
-    turned_at (Reads y) e h = absurd h
-    turned_at (GoesDown k) e h = absurd h
-    turned_at (Works j k) e h = absurd h
-    turned_at (Keeps j) e h = absurd h
-    turned_at (Drops j) e h = absurd h
-    turned_at (Fetches j) e h = absurd h
-    turned_at (Hands j q) e h = absurd h
-    turned_at (TakesOut j w) e h = absurd h
+    turned_at _ e h = absurd h
 
     -- a walk's turn
     pub turned : Turned v i (after_turn v v.run) (tells_of v (after_turn v v.run))

@@ -1,17 +1,16 @@
 -- A walk through a run: what others do leaves it alone, and over m nodes it ends at its turn 9 * m - 5.
-use Rattle.std.proofs.Common.{◌≡◌, ℕ, suc, ◌+◌, ◌*◌, ◌<◌, ◌≤◌, Bool, true, false, cond, not, ◌&&◌, eqb, ◌≢◌, [], ◌∷◌, None, sym, refl, ap, ◌∙◌, subst, inl, inr, true≢false, arith}
-use Rattle.std.proofs.lemmas.Bool.{cases_eq, eq-eqb, ne_eqb, cond-true, cond-false, and_left}
-use Rattle.refusals.specs.declared.Refusal.{Refusal}
+use Rattle.std.proofs.Common.{◌≡◌, ℕ, suc, ◌+◌, ◌*◌, ◌<◌, ◌≤◌, Bool, true, false, not, ◌&&◌, eqb, ◌≢◌, [], ◌∷◌, None, sym, refl, ap, ◌∙◌, subst, inl, inr, true≢false, arith}
+use Rattle.std.proofs.lemmas.Bool.{cases_eq, eq-eqb, ne_eqb, cond-true, cond-false, and_left, and_right, and_from, and_parts}
 use Rattle.kinds.specs.Situations.{Describes}
-use Rattle.model.specs.Types.{WalkReads, ReadNothing, Walk, AsksCall, AsksWalk, Outcome, Refused, Begun, StillRunning, Ended, WorthIs, Situation}
+use Rattle.model.specs.Types.{Lengths, Event, Begins, WalkTurns, Ok, Err, WalkReads, ReadNothing, Walk, AsksCall, AsksWalk, Outcome, Begun, Ended, WorthIs, Situation}
 use Rattle.model.specs.State.{along}
-use Rattle.model.specs.Checks.{Lengths, is_idle, is_walking}
+use Rattle.model.specs.Checks.{is_idle, is_walking}
 use Rattle.model.specs.Begins.{started_walk}
 use Rattle.model.specs.Reach.{Reached, by_slot, InTerm}
 use Rattle.model.specs.Sound.{Sound}
 use Rattle.model.specs.Setting.{Setting}
 use Rattle.model.specs.Plain.{Plain, WorksOut, TermHas, Happens, walks}
-use Rattle.model.specs.Runs.{System, Event, begins, walk_turns, Moves, begin_refused, call_begun, walk_begun, turn_refused, turn, walk_turn_refused, walk_turn, Steps, with_walk, begin_fault_of, Log, Run, still, more, ends_call, is_turn_of, is_accepted, is_end, turns_of, ends_of}
+use Rattle.model.specs.Runs.{System, Moves, begin_refused, call_begun, walk_begun, turn_refused, turn, walk_turn_refused, walk_turn, Steps, with_walk, begin_fault_of, Log, Run, still, more, is_turn_of, is_accepted, is_end, turns_of, ends_of}
 use Rattle.model.specs.Opened.{Agrees, WalkSoFar}
 use Rattle.model.specs.Law.{WalksEnd}
 use Rattle.model.proofs.Sums.{upd_same}
@@ -19,10 +18,11 @@ use Rattle.model.proofs.Trails.{term_reached}
 use Rattle.model.proofs.Begins.{accepted, accepted_idle}
 use Rattle.model.proofs.Accepted.{turn_walks_not}
 use Rattle.model.proofs.RefusedTurns.{turn_refusal, walk_turn_refusal}
+use Rattle.model.proofs.Logs.{ends_not_now, ends_not_later}
 use Rattle.model.proofs.Kept.{Kept, moves_keep}
 use Rattle.model.proofs.Worths.{SameTerm, worth_there, term_has_there, term_has_unique}
 use Rattle.model.proofs.Walk.{View, spent, none_marked, Standing, standing_there, standing_begun, spent_bound, Turned, goes_on, ends}
-use Rattle.model.proofs.WalkTurn.{view_of, StandingIn, PlaceIn, place_walks, walk_slot, walk_low, standing_of, so_far_of, place_of, walk_turned, WalkAnswers, walk_turn_writes_nothing}
+use Rattle.model.proofs.WalkTurn.{view_of, StandingIn, place_walks, walk_slot, walk_low, walk_turned, WalkAnswers, walk_turn_writes_nothing}
 use Rattle.model.proofs.Apart.{Apart}
 use Rattle.model.proofs.Others.{party_of}
 use Rattle.model.proofs.MovesApart.{apart_moves}
@@ -59,13 +59,6 @@ module _ {D W A B : Type 0} (X : Setting D W A B) where
     pub term_has_apart : (m : ℕ) → TermHas X.nodes F.store.kids (F.store.slot p i) m → TermHas X.nodes G.store.kids (G.store.slot p i) m
     term_has_apart m h = subst (λ r. TermHas X.nodes G.store.kids r m) (sym root_is) (term_has_there F.store.kids F.info G.store.kids G.info (F.store.slot p i) same_term X.nodes m h)
 
-  -- what another party does leaves what a walk has set down right, and its reading so far
-  pub walk_stands : (F G : System D W A B) → Sound X.parties X.nodes F.store → (p : ℕ) → 1 ≤ p → p ≤ X.parties → (i : ℕ) (t : Situation) → WalkSoFar X F p i t → PlaceIn X F p t (F.store.run p) → Apart X F G p
-      → WalkSoFar X G p i t × PlaceIn X G p t (G.store.run p)
-  walk_stands F G S p a b i t w h Q =
-      let st = standing_apart F G S p a b i t (standing_of X F S p a b i t w h) Q in
-      (so_far_of X G p i t st, place_of X G p i t st)
-
   -- p's walk from the slot i over m nodes
   module _ (p : ℕ) (a : 1 ≤ p) (b : p ≤ X.parties) (i : ℕ) (t : Situation) (m : ℕ) where
     -- it is under way and has had c turns
@@ -99,13 +92,13 @@ module _ {D W A B : Type 0} (X : Setting D W A B) where
         }) k
 
     -- the walk's own turn
-    own_turn : (F G : System D W A B) (c : ℕ) (l : Lengths) (o : Outcome D W) → Walker F c → Kept X G → Steps X F p o G → Came G c (walk_turns p l) o
+    own_turn : (F G : System D W A B) (c : ℕ) (l : Lengths) (o : Outcome D W) → Walker F c → Kept X G → Steps X F p o G → Came G c (WalkTurns p l) o
     own_turn F G c l o w K T = turns_out (walk_turned X t F G w.kept.sound p a b i o T w.standing)
       where
-        mine : is_turn_of {D = D} p (walk_turns p l) ≡ true
+        mine : is_turn_of {D = D} p (WalkTurns p l) ≡ true
         mine = eq-eqb p p refl
 
-        turns_out : Turned X.worth X.blank X.nodes t (view_of X F p i) i (view_of X G p i) o → Came G c (walk_turns p l) o
+        turns_out : Turned X.worth X.blank X.nodes t (view_of X F p i) i (view_of X G p i) o → Came G c (WalkTurns p l) o
         turns_out (goes_on e st n) =
             let N = walk_turn_writes_nothing X F G p o T (still_walking F c w) in
             onward (record {
@@ -119,13 +112,6 @@ module _ {D W A B : Type 0} (X : Setting D W A B) where
             let h = w.time in
             over (omega (arith, h, n, same)) (ap (λ u. u && is_accepted o) mine ∙ ap is_accepted e) (ap is_end e)
 
-    not_counted : (q : ℕ) (o : Outcome D W) (e : Refusal) → o ≡ Refused e → ends_call e ≡ false → eqb p q && is_accepted o ≡ false
-    not_counted q o e h k = refused (eqb p q)
-      where
-        refused : (u : Bool) → u && is_accepted o ≡ false
-        refused true = ap is_accepted h ∙ k
-        refused false = refl
-
     -- the party that begins is idle, so it is another
     idle_is_other : (F : System D W A B) (c q : ℕ) → Walker F c → is_walking (F.store.run q) ≡ false → p ≢ q
     idle_is_other F c q w h e = true≢false (sym (still_walking F c w) ∙ ap (λ k. is_walking (F.store.run k)) e ∙ h)
@@ -136,52 +122,38 @@ module _ {D W A B : Type 0} (X : Setting D W A B) where
         apart_came c w (idle_is_other F c q w (ap is_walking (accepted_idle X.suits X.parties X.nodes F.store q (AsksCall k) l h))) (call_begun {l = l} h eo g) refl
     walker_move {F} {G} c w (walk_begun {p = q} {w = k} {l = l} u worths h d eo g) =
         apart_came c w (idle_is_other F c q w (ap is_walking (accepted_idle X.suits X.parties X.nodes F.store q (AsksWalk k) l h))) (walk_begun {l = l} u worths h d eo g) refl
-    walker_move {F} {G} c {o = o} w (turn_refused {p = q} {l = l} r h eo g) = beside (subst (λ H. Walker H c) (sym g) w) (not_counted q o r eo (turn_refusal X.parties X.nodes q l (F.store.run q) r h))
+    walker_move {F} {G} c {o = o} w (turn_refused {p = q} {l = l} r h eo g) = beside (subst (λ H. Walker H c) (sym g) w) (and_right (eqb p q) (is_accepted o) (ap is_accepted eo ∙ turn_refusal X.parties X.nodes q l (F.store.run q) r h))
     walker_move {F} {G} c {o = o} w (turn {p = q} {l = l} h T) =
         let ne = idle_is_other F c q w (turn_walks_not X.parties X.nodes q l (F.store.run q) h) in
         apart_came c w ne (turn {l = l} h T) (and_left (eqb p q) (is_accepted o) (ne_eqb p q ne))
-    walker_move {F} {G} c {o = o} w (walk_turn_refused {p = q} {l = l} r h eo g) = beside (subst (λ H. Walker H c) (sym g) w) (not_counted q o r eo (walk_turn_refusal X.parties X.nodes q l (F.store.run q) r h))
+    walker_move {F} {G} c {o = o} w (walk_turn_refused {p = q} {l = l} r h eo g) = beside (subst (λ H. Walker H c) (sym g) w) (and_right (eqb p q) (is_accepted o) (ap is_accepted eo ∙ walk_turn_refusal X.parties X.nodes q l (F.store.run q) r h))
     walker_move {F} {G} c {o = o} w (walk_turn {p = q} {l = l} h T) =
         let K = moves_keep X w.kept (walk_turn {l = l} h T) in
         elim (cases_eq p q) [
           | inr ne ↦ apart_came c w ne (walk_turn {l = l} h T) (and_left (eqb p q) (is_accepted o) (ne_eqb p q ne))
-          | inl e ↦ subst (λ q. Steps X F q o G → Came G c (walk_turns q l) o) e (own_turn F G c l o w K) T
+          | inl e ↦ subst (λ q. Steps X F q o G → Came G c (WalkTurns q l) o) e (own_turn F G c l o w K) T
         ]
 
     -- along a run in which the walk does not end
     pub walker_run : {F G : System D W A B} (c : ℕ) {es : Log X} → Walker F c → Run X F es G → ends_of p es ≡ 0 → Walker G (turns_of p es + c)
     walker_run {F} c w still z = subst (Walker F) (let u : c ≡ 0 + c = omega arith in u) w
     walker_run {G = H} c w (more {G = G} {e = e} {o = o} {es = es} mv r) z =
-        came (walker_move c w mv) (λ c' w'. walker_run c' w' r (no_later (is_turn_of p e && is_end o) (ends_of p es) z))
+        came (walker_move c w mv) (λ c' w'. walker_run c' w' r (ends_not_later e o es p z))
       where
-        no_later : (u : Bool) (n : ℕ) → cond u 1 0 + n ≡ 0 → n ≡ 0
-        no_later true n h = absurd (omega arith)
-        no_later false n h = omega (arith, h)
-
-        not_now : (u : Bool) (n : ℕ) → cond u 1 0 + n ≡ 0 → u ≡ false
-        not_now true n h = absurd (omega arith)
-        not_now false n h = refl
-
         came : Came G c e o → ((c' : ℕ) → Walker G c' → Walker H (turns_of p es + c')) → Walker H (turns_of p ((e, o) ∷ es) + c)
         came (beside w' k) go = subst (Walker H) (let u = cond-false {A = ℕ} (counts e o) 1 0 k in omega (arith, u)) (go c w')
         came (onward w' k f) go = subst (Walker H) (let u = cond-true {A = ℕ} (counts e o) 1 0 k in omega (arith, u)) (go (suc c) w')
-        came (over n k f) go = absurd (true≢false (sym (ended (is_turn_of p e) (is_accepted o) (is_end o) k f) ∙ not_now (is_turn_of p e && is_end o) (ends_of p es) z))
-          where
-            ended : (u v w : Bool) → u && v ≡ true → w ≡ true → u && w ≡ true
-            ended true v w h k = k
-            ended false v w h k = h
+        came (over n k f) go = absurd (true≢false (sym (and_from (is_turn_of p e) (is_end o) (and_parts (is_turn_of p e) (is_accepted o) k).0 f) ∙ ends_not_now e o es p z))
 
   -- a walk's Begin that is not refused
-  begun_walk : {G H : System D W A B} (p : ℕ) (w : Walk) (l : Lengths) → Moves X G (begins p (AsksWalk w) l) Begun H
+  begun_walk : {G H : System D W A B} (p : ℕ) (w : Walk) (l : Lengths) → Moves X G (Begins p (AsksWalk w) l) (Ok Begun) H
       → (t : Situation) × (worths : ℕ → W) × (begin_fault_of X G p (AsksWalk w) l ≡ None) × (H ≡ with_walk X G (started_walk w.slot t G.store p) p worths)
-  begun_walk p w l (begin_refused r h eo g) = absurd (true≢false (ap (λ o. elim o [ Begun ↦ true | Refused e ↦ false | StillRunning ↦ false | Ended x ↦ false ]) eo))
+  begun_walk p w l (begin_refused r h eo g) = absurd (true≢false (ap (λ o. elim o [ Ok progress ↦ true | Err e ↦ false ]) eo))
   begun_walk p w l (walk_begun t worths h d eo g) = (t, worths, h, g)
 
   end_is_accepted : (o : Outcome D W) → is_end o ≡ true → is_accepted o ≡ true
-  end_is_accepted (Refused e) h = h
-  end_is_accepted Begun h = refl
-  end_is_accepted StillRunning h = refl
-  end_is_accepted (Ended x) h = refl
+  end_is_accepted (Err e) h = h
+  end_is_accepted _ h = refl
 
   -- a walk that has begun: nothing is marked, and it is at the node of its slot
   module _ (F : System D W A B) (p i : ℕ) (t : Situation) (worths : ℕ → W) where
@@ -204,10 +176,6 @@ module _ {D W A B : Type 0} (X : Setting D W A B) where
     spent_at_first : spent X.nodes (view_of X walk_begun_system p i) ≡ 5
     spent_at_first = let none = none_marked X.nodes in let u : spent X.nodes first_view ≡ 5 = omega (arith, none) in ap (spent X.nodes) first_view_lem ∙ u
 
-    -- what a walk has set down at its Begin is right
-    pub walk_begins_right : WalkSoFar X walk_begun_system p i t × PlaceIn X walk_begun_system p t (walk_begun_system.store.run p)
-    walk_begins_right = (so_far_of X walk_begun_system p i t standing_at_first, place_of X walk_begun_system p i t standing_at_first)
-
   -- a walk's answer is the plain store's, where that agrees
   pub walk_happens : (F G : System D W A B) → Sound X.parties X.nodes F.store → (p : ℕ) → 1 ≤ p → p ≤ X.parties → (t : Situation) (w : Walk) (s : Plain D) (o : Outcome D W)
       → Agrees X F s → WalkSoFar X F p w.slot t → Describes t w.range w.gear w.temperature → WalkAnswers X F G p w.slot t o → Happens X s p (AsksWalk w) o s
@@ -218,12 +186,12 @@ module _ {D W A B : Type 0} (X : Setting D W A B) where
       let worth-there-is = worth_there F.store.kids F.info s.kids s.info (F.store.slot p i) same X.worth X.blank t (λ _. inl refl) H.works_out in
       let number-there = term_has_there F.store.kids F.info s.kids s.info (F.store.slot p i) same X.nodes H.number H.term_has in
       subst (λ o. Happens X s p (AsksWalk w) o s) (sym H.answers)
-      (subst (λ f. WorksOut X.worth X.blank s.kids s.info t (f p i) H.worth_is → TermHas X.nodes s.kids (f p i) H.number → Happens X s p (AsksWalk w) (Ended (WorthIs H.worth_is H.number)) s) A.slots
+      (subst (λ f. WorksOut X.worth X.blank s.kids s.info t (f p i) H.worth_is → TermHas X.nodes s.kids (f p i) H.number → Happens X s p (AsksWalk w) (Ok (Ended (WorthIs H.worth_is H.number))) s) A.slots
       (λ wo th. walks d wo th) worth-there-is number-there)
 
   -- a walk from its Begin on
   module _ (G H : System D W A B) (K : Kept X G) (p : ℕ) (w : Walk) (l : Lengths) (m : ℕ) (T : TermHas X.nodes G.store.kids (G.store.slot p w.slot) m)
-      (mv : Moves X G (begins p (AsksWalk w) l) Begun H) (t : Situation) (worths : ℕ → W) (h : begin_fault_of X G p (AsksWalk w) l ≡ None) (g : H ≡ with_walk X G (started_walk w.slot t G.store p) p worths) where
+      (mv : Moves X G (Begins p (AsksWalk w) l) (Ok Begun) H) (t : Situation) (worths : ℕ → W) (h : begin_fault_of X G p (AsksWalk w) l ≡ None) (g : H ≡ with_walk X G (started_walk w.slot t G.store p) p worths) where
     party : (1 ≤ p) × (p ≤ X.parties)
     party = let u = accepted X.suits X.parties X.nodes (not (is_idle (G.store.run p))) p (AsksWalk w) l (G.store.slot p) (G.store.trail p) h in (u.party_low, u.party_high)
 

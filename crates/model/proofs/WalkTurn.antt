@@ -1,8 +1,8 @@
 -- A walk's own turn in the store: what is so far stays right, and at its end it answers the worth of its term and how many
 -- nodes that has.
-use Rattle.std.proofs.Common.{◌≡◌, ℕ, ◌≤◌, true, false, cond, eqb, ◌≢◌, ◌⊎◌, List, [], ◌∷◌, Some, None, Option, sym, refl, ap, ◌∙◌, subst, inl, inr, true≢false}
+use Rattle.std.proofs.Common.{◌≡◌, ℕ, ◌≤◌, true, false, cond, eqb, ◌≢◌, ◌⊎◌, List, Some, None, Option, sym, refl, ap, ◌∙◌, subst, inl, inr, true≢false}
 use Rattle.std.proofs.lemmas.Bool.{cond_both, cond-false, ne_eqb}
-use Rattle.model.specs.Types.{Kid, Kids, Running, Idle, Reads, GoesDown, WalkReads, WalkGoesDown, Works, Keeps, Drops, Fetches, Hands, TakesOut, ReadNothing, ReadData, ReadFirst, ReadSecond, Address, Outcome, StillRunning, Ended, WorthIs, Tells, Settles, NoWord, Lengthens, Decision, Situation}
+use Rattle.model.specs.Types.{Ok, Kid, Kids, Running, Idle, WalkReads, WalkGoesDown, ReadNothing, ReadData, ReadFirst, ReadSecond, Address, Outcome, StillRunning, Ended, WorthIs, Tells, Settles, NoWord, Lengthens, Decision, Situation}
 use Rattle.model.specs.State.{kid_at, Trail, no_trail, along, last_of, longer, shorter, Store, set_trail, set_run, last}
 use Rattle.model.specs.Steps.{address, loaded, written, data_written, changed, going, decide, decision}
 use Rattle.model.specs.Checks.{is_idle, is_walking}
@@ -13,19 +13,10 @@ use Rattle.model.specs.Walks.{Notes, marked, resumes, first_unmarked, kid_worth,
 use Rattle.model.specs.Setting.{Setting}
 use Rattle.model.specs.Plain.{Plain, Ask, WorksOut, TermHas}
 use Rattle.model.specs.Runs.{System, tells_settled, moved_as, moved, Steps}
-use Rattle.model.specs.Opened.{Each, OnTrail, WalkSoFar, WalkAsked, Underway}
+use Rattle.model.specs.Opened.{OnTrail, WalkSoFar, WalkAsked, Underway}
 use Rattle.model.proofs.Sums.{upd_same}
-use Rattle.model.proofs.Paths.{Every}
 use Rattle.model.proofs.Trails.{term_low}
 use Rattle.model.proofs.Walk.{View, with_run, PlaceRight, Standing, settled_as, after_turn, tells_of, Turned, goes_on, ends, turned}
-
-every_each : (P : ℕ → Type 0) (ns : List ℕ) → Every P ns → Each P ns
-every_each P [] h = tt
-every_each P (n ∷ ns) h = (h.0, every_each P ns h.1)
-
-each_every : (P : ℕ → Type 0) (ns : List ℕ) → Each P ns → Every P ns
-each_every P [] h = tt
-each_every P (n ∷ ns) h = (h.0, each_every P ns h.1)
 
 module _ {D W A B : Type 0} (X : Setting D W A B) where
   -- what p's walk from the slot i looks at
@@ -43,41 +34,17 @@ module _ {D W A B : Type 0} (X : Setting D W A B) where
   pub underway_walk : (F : System D W A B) (s : Plain D) (p : ℕ) (k : Ask D) (t : Situation) (r : Running D) → WalkAsked X F s p k t → PlaceIn F p t r → Underway X F s p k r
   underway_walk F s p k t (WalkReads u g) w h = (subst (WalkAsked X F s p k) (sym h.0) w, h.1)
   underway_walk F s p k t (WalkGoesDown u j) w h = (subst (WalkAsked X F s p k) (sym h.0) w, h.1, h.2)
-  underway_walk F s p k t Idle w h = absurd h
-  underway_walk F s p k t (Reads g) w h = absurd h
-  underway_walk F s p k t (GoesDown j) w h = absurd h
-  underway_walk F s p k t (Keeps i) w h = absurd h
-  underway_walk F s p k t (Drops i) w h = absurd h
-  underway_walk F s p k t (Hands i q) w h = absurd h
-  underway_walk F s p k t (Fetches i) w h = absurd h
-  underway_walk F s p k t (TakesOut i v) w h = absurd h
-  underway_walk F s p k t (Works j c) w h = absurd h
+  underway_walk F s p k t _ w h = absurd h
 
   pub walk_underway : (F : System D W A B) (s : Plain D) (p : ℕ) (k : Ask D) (r : Running D) → is_walking r ≡ true → Underway X F s p k r → (t : Situation) × WalkAsked X F s p k t × PlaceIn F p t r
   walk_underway F s p k (WalkReads u g) e h = (u, h.0, (refl, h.1))
   walk_underway F s p k (WalkGoesDown u j) e h = (u, h.0, (refl, h.1, h.2))
-  walk_underway F s p k Idle e h = absurd (true≢false (sym e))
-  walk_underway F s p k (Reads g) e h = absurd (true≢false (sym e))
-  walk_underway F s p k (GoesDown j) e h = absurd (true≢false (sym e))
-  walk_underway F s p k (Keeps i) e h = absurd (true≢false (sym e))
-  walk_underway F s p k (Drops i) e h = absurd (true≢false (sym e))
-  walk_underway F s p k (Hands i q) e h = absurd (true≢false (sym e))
-  walk_underway F s p k (Fetches i) e h = absurd (true≢false (sym e))
-  walk_underway F s p k (TakesOut i v) e h = absurd (true≢false (sym e))
-  walk_underway F s p k (Works j c) e h = absurd (true≢false (sym e))
+  walk_underway F s p k _ e h = absurd (true≢false (sym e))
 
   pub place_walks : (F : System D W A B) (p : ℕ) (t : Situation) (n : ℕ) (r : Running D) → PlaceRight X.worth X.blank X.nodes t F.store.kids F.info (F.notes p).marks n r → is_walking r ≡ true
   place_walks F p t n (WalkReads u g) h = refl
   place_walks F p t n (WalkGoesDown u k) h = refl
-  place_walks F p t n Idle h = absurd h
-  place_walks F p t n (Reads g) h = absurd h
-  place_walks F p t n (GoesDown k) h = absurd h
-  place_walks F p t n (Keeps i) h = absurd h
-  place_walks F p t n (Drops i) h = absurd h
-  place_walks F p t n (Hands i q) h = absurd h
-  place_walks F p t n (Fetches i) h = absurd h
-  place_walks F p t n (TakesOut i v) h = absurd h
-  place_walks F p t n (Works j c) h = absurd h
+  place_walks F p t n _ h = absurd h
 
   -- the trail of a walk, in a sound store
   module _ (F : System D W A B) (S : Sound X.parties X.nodes F.store) (p : ℕ) (a : 1 ≤ p) (b : p ≤ X.parties) (i : ℕ) where
@@ -97,7 +64,7 @@ module _ {D W A B : Type 0} (X : Setting D W A B) where
       before = w.before;
       entered = w.entered;
       chain = (trail_of_lem w.at w.before w.entered).0;
-      to_come = each_every (λ n. (F.notes p).marks n ≡ false) (w.at ∷ w.before) (subst (OnTrail (λ n. (F.notes p).marks n ≡ false)) w.entered w.to_come);
+      to_come = subst (OnTrail (λ n. (F.notes p).marks n ≡ false)) w.entered w.to_come;
       rightly = record { of_term = w.of_term; with_kids = w.with_kids; right = w.worths };
       place = subst (λ n. PlaceRight X.worth X.blank X.nodes t F.store.kids F.info (F.notes p).marks n (F.store.run p)) (ap last_of w.entered) h;
     }
@@ -110,7 +77,7 @@ module _ {D W A B : Type 0} (X : Setting D W A B) where
     of_term = S.rightly.of_term;
     with_kids = S.rightly.with_kids;
     worths = S.rightly.right;
-    to_come = subst (OnTrail (λ n. (F.notes p).marks n ≡ false)) (sym S.entered) (every_each (λ n. (F.notes p).marks n ≡ false) (S.at ∷ S.before) S.to_come);
+    to_come = subst (OnTrail (λ n. (F.notes p).marks n ≡ false)) (sym S.entered) S.to_come;
   }
 
   pub place_of : (F : System D W A B) (p i : ℕ) (t : Situation) → StandingIn F p i t → PlaceIn F p t (F.store.run p)
@@ -149,12 +116,12 @@ module _ {D W A B : Type 0} (X : Setting D W A B) where
 
     -- a walk's fourth reading
     pub settles_as : (u : Situation) (d : D) (j k : ℕ) → F.store.run p ≡ WalkReads u (ReadSecond d j k)
-        → moved X F p x ≡ moved_as X F p x here (Settles u d (record { first = j; second = k; third = (F.store.kids (last F.store p)).third }))
+        → moved X F p x ≡ moved_as X F p x here (Settles (record { situation = u; given = d; kids = record { first = j; second = k; third = (F.store.kids (last F.store p)).third } }))
     settles_as u d j k e = ap (λ T. moved_as X F p x here T) (ap (λ r. (decides r).told) e)
 
   -- the decision to go down, where there is a kid
   abbrev down_to_decision : ℕ → Running D → Decision D W
-  down_to_decision n r = record { word = NoWord; change = Lengthens n; next = r; told = Tells StillRunning }
+  down_to_decision n r = record { word = NoWord; change = Lengthens n; next = r; told = Tells (Ok StillRunning) }
 
   -- What a step of p's walk does to what it looks at.
   module _ (t : Situation) (F G : System D W A B) (p i : ℕ) (o : Outcome D W) (T : Steps X F p o G) where
@@ -185,9 +152,9 @@ module _ {D W A B : Type 0} (X : Setting D W A B) where
     seen_reading : (r r' : Running D) → F.store.run p ≡ r → decides F p T.pick r ≡ going NoWord r' → writes F p T.pick r (going NoWord r') ≡ set_run F.store p r'
         → data_written F.info (looks F p T.pick r) NoWord ≡ F.info → is_idle r' ≡ false → Seen (with_run (view_of F p i) r')
     seen_reading r r' e f w i' z =
-        let h = tells_as F p T.pick r (going NoWord r') StillRunning e f refl in (
+        let h = tells_as F p T.pick r (going NoWord r') (Ok StillRunning) e f refl in (
           view_is (set_run F.store p r') (F.notes p) (h.store_is ∙ w) (h.info_is ∙ i') h.notes_are r' (F.store.trail p) refl refl refl (upd_same F.store.run p r'),
-          T.tells ∙ h.tells ∙ sym (cond-false (is_idle r') _ StillRunning z),
+          T.tells ∙ h.tells ∙ sym (cond-false (is_idle r') _ (Ok StillRunning) z),
         )
 
     seen_down : (u : Situation) (k : Kid) → F.store.run p ≡ WalkGoesDown u k → kid_at (F.store.kids (last F.store p)) k ≢ 0 → Seen (after (WalkGoesDown u k))
@@ -195,7 +162,7 @@ module _ {D W A B : Type 0} (X : Setting D W A B) where
         let n = kid_at (F.store.kids (last F.store p)) k in
         let L : Trail = longer (F.store.trail p) n in
         let r : Running D = WalkReads u ReadNothing in
-        let h = tells_as F p T.pick (WalkGoesDown u k) (down_to_decision n r) StillRunning e (cond-false (eqb n 0) (going NoWord r) (down_to_decision n r) (ne_eqb n 0 nz)) refl in (
+        let h = tells_as F p T.pick (WalkGoesDown u k) (down_to_decision n r) (Ok StillRunning) e (cond-false (eqb n 0) (going NoWord r) (down_to_decision n r) (ne_eqb n 0 nz)) refl in (
           view_is (set_run (set_trail F.store p L) p r) (F.notes p) h.store_is h.info_is h.notes_are r L refl refl (upd_same F.store.trail p L) (upd_same F.store.run p r),
           T.tells ∙ h.tells,
         )
@@ -214,13 +181,13 @@ module _ {D W A B : Type 0} (X : Setting D W A B) where
         → (moved X F p T.pick).outcome ≡ tells_settled X F.store (store_as u c) (notes_as u d ks c) p → Seen (settled_as X.worth X.blank X.nodes t (view_of F p i) u d ks c)
     seen_choice u d ks (Some k) es ei en eo = (
       view_is (set_run F.store p (WalkGoesDown u k)) (F.notes p) es ei en (WalkGoesDown u k) (F.store.trail p) refl refl refl (upd_same F.store.run p (WalkGoesDown u k)),
-      T.tells ∙ eo ∙ ap (λ r. cond (is_idle r) (Ended (WorthIs ((F.notes p).worths (last F.store p)) (marked X.nodes (F.notes p).marks))) StillRunning) (upd_same F.store.run p (WalkGoesDown u k)),
+      T.tells ∙ eo ∙ ap (λ r. cond (is_idle r) (Ok (Ended (WorthIs ((F.notes p).worths (last F.store p)) (marked X.nodes (F.notes p).marks)))) (Ok StillRunning)) (upd_same F.store.run p (WalkGoesDown u k)),
     )
     seen_choice u d ks None es ei en eo =
         let L : Trail = shorter (F.store.trail p) in
         let notes : Notes W = noted (F.notes p) (last F.store p) (worth_here u d ks) in (
           view_is (set_run (set_trail F.store p L) p (resumes u L)) notes es ei en (resumes u L) L refl refl (upd_same F.store.trail p L) (upd_same F.store.run p (resumes u L)),
-          T.tells ∙ eo ∙ ap (λ r. cond (is_idle r) (Ended (WorthIs (notes.worths (last F.store p)) (marked X.nodes notes.marks))) StillRunning) (upd_same F.store.run p (resumes u L)),
+          T.tells ∙ eo ∙ ap (λ r. cond (is_idle r) (Ok (Ended (WorthIs (notes.worths (last F.store p)) (marked X.nodes notes.marks)))) (Ok StillRunning)) (upd_same F.store.run p (resumes u L)),
         )
 
     seen_settled : (u : Situation) (d : D) (j k : ℕ) → F.store.run p ≡ WalkReads u (ReadSecond d j k) → Seen (after (WalkReads u (ReadSecond d j k)))
@@ -235,15 +202,7 @@ module _ {D W A B : Type 0} (X : Setting D W A B) where
     seen (WalkReads u (ReadFirst d j)) e h = seen_reading (WalkReads u (ReadFirst d j)) (WalkReads u (ReadSecond d j (F.store.kids (last F.store p)).second)) e refl refl refl refl
     seen (WalkReads u (ReadSecond d j k)) e h = seen_settled u d j k e
     seen (WalkGoesDown u k) e h = seen_down u k e h.1
-    seen Idle e h = absurd h
-    seen (Reads g) e h = absurd h
-    seen (GoesDown k) e h = absurd h
-    seen (Works j c) e h = absurd h
-    seen (Keeps j) e h = absurd h
-    seen (Drops j) e h = absurd h
-    seen (Fetches j) e h = absurd h
-    seen (Hands j q) e h = absurd h
-    seen (TakesOut j w) e h = absurd h
+    seen _ e h = absurd h
 
   -- an accepted turn of a walk goes on, or is its last
   pub walk_turned : (t : Situation) (F G : System D W A B) → Sound X.parties X.nodes F.store → (p : ℕ) → 1 ≤ p → p ≤ X.parties → (i : ℕ) (o : Outcome D W) → Steps X F p o G → StandingIn F p i t
@@ -257,13 +216,13 @@ module _ {D W A B : Type 0} (X : Setting D W A B) where
 
   -- a walk that goes on: what is so far is right after its turn too
   abbrev pub StillWalks : System D W A B → ℕ → ℕ → Situation → Outcome D W → Type 0
-  StillWalks G p i t o = (o ≡ StillRunning) × WalkSoFar X G p i t × PlaceIn G p t (G.store.run p)
+  StillWalks G p i t o = (o ≡ Ok StillRunning) × WalkSoFar X G p i t × PlaceIn G p t (G.store.run p)
 
   -- a walk that ends: it answers the worth of its slot's node and how many nodes its term has
   pub record WalkAnswers (F G : System D W A B) (p i : ℕ) (t : Situation) (o : Outcome D W) : Type 0 where
     pub worth_is : W
     pub number : ℕ
-    pub answers : o ≡ Ended (WorthIs worth_is number)
+    pub answers : o ≡ Ok (Ended (WorthIs worth_is number))
     pub works_out : WorksOut X.worth X.blank F.store.kids F.info t (F.store.slot p i) worth_is
     pub term_has : TermHas X.nodes F.store.kids (F.store.slot p i) number
     pub idle : G.store.run p ≡ Idle
@@ -296,14 +255,14 @@ module _ {D W A B : Type 0} (X : Setting D W A B) where
     reading_writes : (r r' : Running D) → F.store.run p ≡ r → decides F p T.pick r ≡ going NoWord r' → writes F p T.pick r (going NoWord r') ≡ set_run F.store p r'
         → data_written F.info (looks F p T.pick r) NoWord ≡ F.info → WritesNothing F G
     reading_writes r r' e f w i =
-        let h = tells_as F p T.pick r (going NoWord r') StillRunning e f refl in
+        let h = tells_as F p T.pick r (going NoWord r') (Ok StillRunning) e f refl in
         unwritten (set_run F.store p r') (h.store_is ∙ w) (h.info_is ∙ i) (refl, refl, refl)
 
     down_writes : (u : Situation) (k : Kid) → F.store.run p ≡ WalkGoesDown u k → WritesNothing F G
     down_writes u k e =
         let n = kid_at (F.store.kids (last F.store p)) k in
         let r : Running D = WalkReads u ReadNothing in
-        let h = tells_as F p T.pick (WalkGoesDown u k) (decides F p T.pick (WalkGoesDown u k)) StillRunning e refl (cond_both (eqb n 0) (going NoWord r) (down_to_decision n r) (λ d. d.told ≡ Tells StillRunning) (λ _. refl) (λ _. refl)) in
+        let h = tells_as F p T.pick (WalkGoesDown u k) (decides F p T.pick (WalkGoesDown u k)) (Ok StillRunning) e refl (cond_both (eqb n 0) (going NoWord r) (down_to_decision n r) (λ d. d.told ≡ Tells (Ok StillRunning)) (λ _. refl) (λ _. refl)) in
         unwritten (writes F p T.pick (WalkGoesDown u k) (decides F p T.pick (WalkGoesDown u k))) h.store_is h.info_is
         (cond_both (eqb n 0) (going NoWord r) (down_to_decision n r) (λ d. Unwritten (writes F p T.pick (WalkGoesDown u k) d)) (λ _. (refl, refl, refl)) (λ _. (refl, refl, refl)))
 
@@ -323,15 +282,7 @@ module _ {D W A B : Type 0} (X : Setting D W A B) where
     walking_writes (WalkReads u (ReadFirst d j)) e h = reading_writes (WalkReads u (ReadFirst d j)) (WalkReads u (ReadSecond d j (F.store.kids (last F.store p)).second)) e refl refl refl
     walking_writes (WalkReads u (ReadSecond d j k)) e h = settled_writes u d j k e
     walking_writes (WalkGoesDown u k) e h = down_writes u k e
-    walking_writes Idle e h = absurd (true≢false (sym h))
-    walking_writes (Reads g) e h = absurd (true≢false (sym h))
-    walking_writes (GoesDown k) e h = absurd (true≢false (sym h))
-    walking_writes (Works j c) e h = absurd (true≢false (sym h))
-    walking_writes (Keeps j) e h = absurd (true≢false (sym h))
-    walking_writes (Drops j) e h = absurd (true≢false (sym h))
-    walking_writes (Fetches j) e h = absurd (true≢false (sym h))
-    walking_writes (Hands j q) e h = absurd (true≢false (sym h))
-    walking_writes (TakesOut j w) e h = absurd (true≢false (sym h))
+    walking_writes _ e h = absurd (true≢false (sym h))
 
     pub walk_turn_writes_nothing : is_walking (F.store.run p) ≡ true → WritesNothing F G
     walk_turn_writes_nothing h = walking_writes (F.store.run p) refl h

@@ -3,20 +3,14 @@ use Rattle.std.specs.Prelude.{ℕ, Bool, true, false, cond, not, ◌&&◌, ◌||
 use Rattle.refusals.specs.declared.Refusal.{Refusal}
 use Rattle.refusals.specs.declared.Refusal.TheVariants.{NoSuchParty, NoSuchSlot, ShortList, DataDoesNotFit, BadSituation, Busy, NothingToTurn, SlotEmpty, SlotFilled, NoTrail, TrailStands}
 use Rattle.kinds.specs.Situations.{in_limits}
-use Rattle.kinds.specs.declared.given.Given.{Given}
-use Rattle.model.specs.Types.{Kids, Call, Enter, Up, Leave, Read, Down, Keep, Drop, Hand, Fetch, Make, Sweep, Walk, Asked, AsksCall, AsksWalk, Running, Idle, Reads, GoesDown, Keeps, Drops, Hands, Fetches, TakesOut, Works, WalkReads, WalkGoesDown}
+use Rattle.kinds.specs.declared.kids.PerKid.{PerKid}
+use Rattle.model.specs.Types.{Kids, Lengths, Call, Enter, Up, Leave, Read, Down, Keep, Drop, Hand, Fetch, Make, Sweep, Walk, Asked, AsksCall, AsksWalk, Running, Idle, Reads, GoesDown, Keeps, Drops, Hands, Fetches, TakesOut, Works, WalkReads, WalkGoesDown}
 use Rattle.model.specs.State.{Trail, no_trail, along}
 use Rattle.model.specs.Steps.{between}
 
 -- a party has this many slots
 abbrev pub last_slot : ℕ
 last_slot = 8
-
--- how long the lists are that a Begin or a Turn is given: data, marks, worths
-pub record Lengths : Type 0 where
-  pub entries : ℕ
-  pub marks : ℕ
-  pub worths : ℕ
 
 -- the first of several faults that is there
 abbrev pub first_fault : List (Bool × Refusal) → Option Refusal
@@ -43,7 +37,7 @@ abbrev pub kid_slot_empty : (ℕ → ℕ) → ℕ → Bool
 kid_slot_empty slots i = not (i == 0) && slots i == 0
 
 -- which kids a Make is given
-abbrev pub given_by : Kids → Given
+abbrev pub given_by : Kids → PerKid Bool
 given_by ks = record { first = not (ks.first == 0); second = not (ks.second == 0); third = not (ks.third == 0) }
 
 abbrev pub no_receiver : {D : Type 0} → ℕ → Asked D → Bool
@@ -52,7 +46,7 @@ no_receiver N a = elim a [ AsksCall c ↦ elim c [ Hand i q ↦ not (between 1 N
 abbrev pub too_short : {D : Type 0} → ℕ → Asked D → Lengths → Bool
 too_short M a l = elim a [ AsksCall c ↦ nat_lt l.entries M | AsksWalk w ↦ nat_lt l.entries M || (nat_lt l.marks M || nat_lt l.worths M) ]
 
-module _ {D : Type 0} (suits : D → Given → Bool) where
+module _ {D : Type 0} (suits : D → PerKid Bool → Bool) where
   -- the faults of a call by its party's slots and trail
   abbrev pub call_faults : Call D → (ℕ → ℕ) → Trail → List (Bool × Refusal)
   call_faults (Enter i) slots t = (no_slot i, NoSuchSlot) ∷ (not (is_none t), TrailStands) ∷ ((slots i == 0), SlotEmpty) ∷ []

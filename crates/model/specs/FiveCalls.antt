@@ -1,6 +1,6 @@
 -- A run in which two parties interleave a Make, a Hand, a Fetch, a walk and a Drop.
 use Rattle.std.specs.Prelude.{◌≡◌, ℕ, true, List, [], ◌∷◌, ◌++◌, pos}
-use Rattle.model.specs.Types.{Plan, Fetches, Up, Drop, Hand, Fetch, Make, Walk, Asked, AsksCall, AsksWalk, AtNode, WorthIs, Outcome, Ended}
+use Rattle.model.specs.Types.{Ok, Plan, Fetches, Up, Drop, Hand, Fetch, Make, Walk, Asked, AsksCall, AsksWalk, AtNode, WorthIs, Outcome, Ended}
 use Rattle.model.specs.Plain.{Plain, NewPlain, Ask, PlainRun}
 use Rattle.model.specs.Runs.{System, Log, Run, history}
 use Rattle.model.specs.Opened.{Agrees, New}
@@ -24,7 +24,7 @@ by p a = record { party = p; asked = a; lengths = long }
 
 -- party 1 makes node 1 and hands it to party 2, which fetches it, walks over it and drops it
 abbrev pub five_calls : List (Ask ℕ × Outcome ℕ ℕ)
-five_calls = (by 1 (AsksCall (Make plan)), Ended (AtNode 1)) ∷ (by 1 (AsksCall (Hand 1 2)), Ended (AtNode 1)) ∷ (by 2 (AsksCall (Fetch 2)), Ended (AtNode 1)) ∷ (by 2 (AsksWalk over), Ended (WorthIs 7 1)) ∷ (by 2 (AsksCall (Drop 2)), Ended (AtNode 1)) ∷ []
+five_calls = (by 1 (AsksCall (Make plan)), Ok (Ended (AtNode 1))) ∷ (by 1 (AsksCall (Hand 1 2)), Ok (Ended (AtNode 1))) ∷ (by 2 (AsksCall (Fetch 2)), Ok (Ended (AtNode 1))) ∷ (by 2 (AsksWalk over), Ok (Ended (WorthIs 7 1))) ∷ (by 2 (AsksCall (Drop 2)), Ok (Ended (AtNode 1))) ∷ []
 
 -- a run from a new store, with a moment at which party 1's Make and party 2's Fetch are both under way, whose calls in the
 -- order in which they stand are these; so the plain store has just these, and agrees

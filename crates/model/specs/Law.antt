@@ -1,11 +1,10 @@
 -- The law of the shared store.
 use Rattle.std.specs.Prelude.{◌≡◌, ℕ, ◌+◌, ◌*◌, ◌<◌, ◌≤◌, Bool, true, false, ◌↔◌}
-use Rattle.model.specs.Types.{Makes, Sweeps, Running, Idle, Reads, GoesDown, Keeps, Drops, Hands, Fetches, TakesOut, Works, WalkReads, WalkGoesDown, Walk, AsksWalk, Outcome, Begun}
-use Rattle.model.specs.Checks.{Lengths}
+use Rattle.model.specs.Types.{Lengths, Event, Begins, Ok, Makes, Sweeps, Running, Idle, Reads, GoesDown, Keeps, Drops, Hands, Fetches, TakesOut, Works, WalkReads, WalkGoesDown, Walk, AsksWalk, Outcome, Begun}
 use Rattle.model.specs.Reach.{Lost, Free, AtRest}
 use Rattle.model.specs.Setting.{Setting}
 use Rattle.model.specs.Plain.{Plain, NewPlain, Ask, PlainRun, TermHas}
-use Rattle.model.specs.Runs.{System, Event, begins, Moves, Log, Run, AtEachMoment, history, is_turn_of, is_end, turns_of, ends_of}
+use Rattle.model.specs.Runs.{System, Moves, Log, Run, AtEachMoment, history, is_turn_of, is_end, turns_of, ends_of}
 use Rattle.model.specs.Opened.{Agrees, Opened, New}
 
 -- a call that is neither Make nor walk is under way
@@ -47,8 +46,8 @@ module _ {D W A B : Type 0} (X : Setting D W A B) where
 
   -- a walk over m nodes ends at its turn 9 * m - 5, and not before
   pub record WalkEnds (G : System D W A B) (p : ℕ) (w : Walk) (l : Lengths) (m : ℕ) : Type 0 where
-    pub not_later : (H K : System D W A B) (later : Log X) → Moves X G (begins p (AsksWalk w) l) Begun H → Run X H later K → ends_of p later ≡ 0 → turns_of p later + 5 < 9 * m
-    pub just_then : (H K L : System D W A B) (later : Log X) (e : Event D) (o : Outcome D W) → Moves X G (begins p (AsksWalk w) l) Begun H → Run X H later K → ends_of p later ≡ 0
+    pub not_later : (H K : System D W A B) (later : Log X) → Moves X G (Begins p (AsksWalk w) l) (Ok Begun) H → Run X H later K → ends_of p later ≡ 0 → turns_of p later + 5 < 9 * m
+    pub just_then : (H K L : System D W A B) (later : Log X) (e : Event D) (o : Outcome D W) → Moves X G (Begins p (AsksWalk w) l) (Ok Begun) H → Run X H later K → ends_of p later ≡ 0
         → Moves X K e o L → is_turn_of p e ≡ true → is_end o ≡ true → turns_of p later + 1 + 5 ≡ 9 * m
 
   abbrev pub WalksEnd : System D W A B → Type 0

@@ -5,6 +5,7 @@ pub mod State
 pub mod Steps
 pub mod Checks
 pub mod Begins
+pub mod Party
 pub mod Reach
 pub mod Inv
 pub mod Sound
@@ -16,6 +17,7 @@ pub mod Opened
 pub mod Law
 pub mod Existing
 pub mod Shown
+pub mod PlaceTexts
 pub mod SmallStore
 pub mod Sixteen
 pub mod FiveCalls

@@ -1,5 +1,6 @@
 -- A shared store and a plain store that agree, with calls and walks under way: what the law starts from.
-use Rattle.std.specs.Prelude.{◌≡◌, ℕ, ◌≤◌, true, false, cond, ◌≢◌, List, [], ◌∷◌, None}
+use Rattle.std.specs.Prelude.{◌≡◌, ℕ, ◌≤◌, true, false, cond, ◌≢◌, List, None}
+use Rattle.std.specs.List.{AllByRecursion}
 use Rattle.kinds.specs.Situations.{Describes}
 use Rattle.model.specs.Types.{Kid, Kids, Place, OpenTray, ReadTray, LookForNode, LockNode, Recheck, UnlockAndGoBack, ReadKid, ClearKid, UncountKid, Claim, Unlock, Offer, KeepForOneself, GiveBack, CloseTray, WriteData, CountKid, LinkKid, Plan, Makes, Sweeps, Reading, ReadNothing, ReadData, ReadFirst, ReadSecond, Running, Idle, Reads, GoesDown, Keeps, Drops, Hands, Fetches, TakesOut, Works, WalkReads, WalkGoesDown, Read, Down, Keep, Drop, Hand, Fetch, Make, Sweep, Walk, Asked, AsksCall, AsksWalk, Situation}
 use Rattle.model.specs.State.{kid_at, Trail, no_trail, along, new_store, last}
@@ -11,14 +12,10 @@ use Rattle.model.specs.Setting.{Setting, WithinLimits}
 use Rattle.model.specs.Plain.{Plain, Ask, WorksOut}
 use Rattle.model.specs.Runs.{System}
 
-abbrev pub Each : (ℕ → Type 0) → List ℕ → Type 0
-Each P [] = Unit {0}
-Each P (n ∷ ns) = P n × Each P ns
-
 -- what holds of every node of a trail
 abbrev pub OnTrail : (ℕ → Type 0) → Trail → Type 0
 OnTrail P no_trail = Unit {0}
-OnTrail P (along i n ns) = P n × Each P ns
+OnTrail P (along i n ns) = P n × AllByRecursion P ns
 
 -- what a reading has read so far is what stands there
 abbrev pub ReadSoFar : {D : Type 0} → D → Kids → Reading D → Type 0

@@ -4,9 +4,9 @@ use Rattle.refusals.specs.declared.Refusal.{Refusal}
 use Rattle.refusals.specs.declared.Refusal.TheVariants.{NoKid, InboxFull, InboxEmpty}
 use Rattle.kinds.specs.Situations.{Describes}
 use Rattle.model.specs.Fun.{upd, sum_to}
-use Rattle.model.specs.Types.{Kids, Plan, Enter, Up, Leave, Read, Down, Keep, Drop, Hand, Fetch, Make, Sweep, Walk, Asked, AsksCall, AsksWalk, Done, AtNode, Contents, Swept, WorthIs, Outcome, Refused, Ended, Situation}
+use Rattle.model.specs.Types.{Lengths, Ok, Err, Kids, Plan, Enter, Up, Leave, Read, Down, Keep, Drop, Hand, Fetch, Make, Sweep, Walk, Asked, AsksCall, AsksWalk, Done, AtNode, Contents, Swept, WorthIs, Outcome, Ended, Situation}
 use Rattle.model.specs.State.{kid_at, empty_kids, Trail, no_trail, along, last_of, longer, shorter}
-use Rattle.model.specs.Checks.{Lengths, begin_fault}
+use Rattle.model.specs.Checks.{begin_fault}
 use Rattle.model.specs.Begins.{kid_of}
 use Rattle.model.specs.Reach.{Reach, InTerm}
 use Rattle.model.specs.Setting.{Setting}
@@ -74,30 +74,30 @@ module _ {D W A B : Type 0} (X : Setting D W A B) where
 
   -- an accepted call or walk of the party p: what it tells, and the store after it
   pub data Happens (s : Plain D) (p : ℕ) : Asked D → Outcome D W → Plain D → Type 0 where
-    enters : {i : ℕ} → Happens s p (AsksCall (Enter i)) (Ended Done) (put_trail s p (along i (s.slot p i) []))
-    goes_up : Happens s p (AsksCall Up) (Ended Done) (put_trail s p (shorter (s.trail p)))
-    leaves : Happens s p (AsksCall Leave) (Ended Done) (put_trail s p no_trail)
-    reads : Happens s p (AsksCall Read) (Ended (Contents (last_at s p) (s.info (last_at s p)) (s.kids (last_at s p)))) s
-    goes_down : {i n : ℕ} → n ≡ kid_at (s.kids (last_at s p)) (kid_of i) → n ≢ 0 → Happens s p (AsksCall (Down i)) (Ended (AtNode n)) (put_trail s p (longer (s.trail p) n))
-    no_kid_there : {i : ℕ} → kid_at (s.kids (last_at s p)) (kid_of i) ≡ 0 → Happens s p (AsksCall (Down i)) (Refused NoKid) s
-    keeps : {i : ℕ} → Happens s p (AsksCall (Keep i)) (Ended (AtNode (last_at s p))) (put_slot s p i (last_at s p))
-    drops : {i : ℕ} → Happens s p (AsksCall (Drop i)) (Ended (AtNode (s.slot p i))) (put_slot s p i 0)
-    hands : {i q : ℕ} → s.inbox q ≡ 0 → Happens s p (AsksCall (Hand i q)) (Ended (AtNode (s.slot p i))) (put_slot (put_inbox s q (s.slot p i)) p i 0)
-    inbox_full : {i q : ℕ} → s.inbox q ≢ 0 → Happens s p (AsksCall (Hand i q)) (Refused InboxFull) s
-    fetches : {i : ℕ} → s.inbox p ≢ 0 → Happens s p (AsksCall (Fetch i)) (Ended (AtNode (s.inbox p))) (put_slot (put_inbox s p 0) p i (s.inbox p))
-    inbox_empty : {i : ℕ} → s.inbox p ≡ 0 → Happens s p (AsksCall (Fetch i)) (Refused InboxEmpty) s
+    enters : {i : ℕ} → Happens s p (AsksCall (Enter i)) (Ok (Ended Done)) (put_trail s p (along i (s.slot p i) []))
+    goes_up : Happens s p (AsksCall Up) (Ok (Ended Done)) (put_trail s p (shorter (s.trail p)))
+    leaves : Happens s p (AsksCall Leave) (Ok (Ended Done)) (put_trail s p no_trail)
+    reads : Happens s p (AsksCall Read) (Ok (Ended (Contents (last_at s p) (s.info (last_at s p)) (s.kids (last_at s p))))) s
+    goes_down : {i n : ℕ} → n ≡ kid_at (s.kids (last_at s p)) (kid_of i) → n ≢ 0 → Happens s p (AsksCall (Down i)) (Ok (Ended (AtNode n))) (put_trail s p (longer (s.trail p) n))
+    no_kid_there : {i : ℕ} → kid_at (s.kids (last_at s p)) (kid_of i) ≡ 0 → Happens s p (AsksCall (Down i)) (Err NoKid) s
+    keeps : {i : ℕ} → Happens s p (AsksCall (Keep i)) (Ok (Ended (AtNode (last_at s p)))) (put_slot s p i (last_at s p))
+    drops : {i : ℕ} → Happens s p (AsksCall (Drop i)) (Ok (Ended (AtNode (s.slot p i)))) (put_slot s p i 0)
+    hands : {i q : ℕ} → s.inbox q ≡ 0 → Happens s p (AsksCall (Hand i q)) (Ok (Ended (AtNode (s.slot p i)))) (put_slot (put_inbox s q (s.slot p i)) p i 0)
+    inbox_full : {i q : ℕ} → s.inbox q ≢ 0 → Happens s p (AsksCall (Hand i q)) (Err InboxFull) s
+    fetches : {i : ℕ} → s.inbox p ≢ 0 → Happens s p (AsksCall (Fetch i)) (Ok (Ended (AtNode (s.inbox p)))) (put_slot (put_inbox s p 0) p i (s.inbox p))
+    inbox_empty : {i : ℕ} → s.inbox p ≡ 0 → Happens s p (AsksCall (Fetch i)) (Err InboxEmpty) s
     makes : {plan : Plan D} (v : ℕ) → OutOfReach s v
-        → Happens s p (AsksCall (Make plan)) (Ended (AtNode v)) (put_slot (put_node s v (kids_from s p plan.kids) plan.given) p plan.slot v)
-    sweeps_nothing : Happens s p (AsksCall Sweep) (Ended (Swept 0 0)) s
-    sweeps : (v q : ℕ) → OutOfReach s v → q ≤ X.parties → Happens s p (AsksCall Sweep) (Ended (Swept v q)) s
+        → Happens s p (AsksCall (Make plan)) (Ok (Ended (AtNode v))) (put_slot (put_node s v (kids_from s p plan.kids) plan.given) p plan.slot v)
+    sweeps_nothing : Happens s p (AsksCall Sweep) (Ok (Ended (Swept 0 0))) s
+    sweeps : (v q : ℕ) → OutOfReach s v → q ≤ X.parties → Happens s p (AsksCall Sweep) (Ok (Ended (Swept v q))) s
     walks : {w : Walk} {t : Situation} {v : W} {m : ℕ} → Describes t w.range w.gear w.temperature
         → WorksOut X.worth X.blank s.kids s.info t (s.slot p w.slot) v → TermHas X.nodes s.kids (s.slot p w.slot) m
-        → Happens s p (AsksWalk w) (Ended (WorthIs v m)) s
+        → Happens s p (AsksWalk w) (Ok (Ended (WorthIs v m))) s
 
   -- a call or walk as the plain store takes it: refused by a Begin's checks, of which it is never busy, or it happens
   pub data Takes (s : Plain D) (k : Ask D) : Outcome D W → Plain D → Type 0 where
     turned_down : {e : Refusal} → begin_fault X.suits X.parties X.nodes false k.party k.asked k.lengths (s.slot k.party) (s.trail k.party) ≡ Some e
-        → Takes s k (Refused e) s
+        → Takes s k (Err e) s
     accepted : {o : Outcome D W} {t : Plain D} → begin_fault X.suits X.parties X.nodes false k.party k.asked k.lengths (s.slot k.party) (s.trail k.party) ≡ None
         → Happens s k.party k.asked o t → Takes s k o t
 

@@ -5,10 +5,10 @@ use Rattle.refusals.specs.declared.Refusal.{Refusal}
 use Rattle.kinds.specs.Situations.{Describes}
 use Rattle.orders.specs.Meaning.{Picked}
 use Rattle.model.specs.Fun.{upd}
-use Rattle.model.specs.Types.{OpenTray, ReadTray, LookForNode, LockNode, Recheck, UnlockAndGoBack, ReadKid, ClearKid, UncountKid, Claim, Unlock, Offer, KeepForOneself, GiveBack, CloseTray, WriteData, CountKid, LinkKid, Running, Idle, Reads, GoesDown, Keeps, Drops, Hands, Fetches, TakesOut, Works, WalkReads, WalkGoesDown, Call, Enter, Up, Leave, Read, Down, Keep, Drop, Hand, Fetch, Make, Sweep, Walk, Asked, AsksCall, AsksWalk, Done, WorthIs, Outcome, Refused, Begun, StillRunning, Ended, Told, Tells, Settles, Decision, Situation}
+use Rattle.model.specs.Types.{Lengths, Event, Begins, Turns, WalkTurns, Ok, Err, OpenTray, ReadTray, LookForNode, LockNode, Recheck, UnlockAndGoBack, ReadKid, ClearKid, UncountKid, Claim, Unlock, Offer, KeepForOneself, GiveBack, CloseTray, WriteData, CountKid, LinkKid, Running, Idle, Reads, GoesDown, Keeps, Drops, Hands, Fetches, TakesOut, Works, WalkReads, WalkGoesDown, Call, Enter, Up, Leave, Read, Down, Keep, Drop, Hand, Fetch, Make, Sweep, Walk, Asked, AsksCall, AsksWalk, Done, WorthIs, Outcome, Begun, StillRunning, Ended, Told, Tells, Settles, Decision, Situation}
 use Rattle.model.specs.State.{Store, last}
 use Rattle.model.specs.Steps.{decision, stepped, data_after}
-use Rattle.model.specs.Checks.{Lengths, begin_fault, turn_fault, walk_turn_fault, is_idle}
+use Rattle.model.specs.Checks.{begin_fault, turn_fault, walk_turn_fault, is_idle}
 use Rattle.model.specs.Begins.{started, started_walk}
 use Rattle.model.specs.Walks.{Notes, marked, settled_store, settled_notes}
 use Rattle.model.specs.Setting.{Meaning, Setting}
@@ -21,11 +21,6 @@ pub record System (D W A B : Type 0) : Type 0 where
   pub notes : ℕ → Notes W
   pub node_order : A
   pub party_order : B
-
--- a Begin or a Turn, with the lengths of the lists that it is given
-pub data Event (D : Type 0) : Type 0 where
-  begins : ℕ → Asked D → Lengths → Event D
-  turns walk_turns : ℕ → Lengths → Event D
 
 -- a place that asks the node order, or the party order
 abbrev pub asks_nodes : {D : Type 0} → Running D → Bool
@@ -41,7 +36,7 @@ pub record Asks {O : Type 0} (m : Meaning O) (asked : Bool) (old new : O) (p x :
 
 -- Enter, Up and Leave end in their Begin
 abbrev pub tells_begun : {D W : Type 0} → Call D → Outcome D W
-tells_begun c = elim c [ Enter i ↦ Ended Done | Up ↦ Ended Done | Leave ↦ Ended Done | Read ↦ Begun | Down k ↦ Begun | Keep i ↦ Begun | Drop i ↦ Begun | Hand i q ↦ Begun | Fetch i ↦ Begun | Make plan ↦ Begun | Sweep ↦ Begun ]
+tells_begun c = elim c [ Enter i ↦ Ok (Ended Done) | Up ↦ Ok (Ended Done) | Leave ↦ Ok (Ended Done) | Read ↦ Ok Begun | Down k ↦ Ok Begun | Keep i ↦ Ok Begun | Drop i ↦ Ok Begun | Hand i q ↦ Ok Begun | Fetch i ↦ Ok Begun | Make plan ↦ Ok Begun | Sweep ↦ Ok Begun ]
 
 module _ {D W A B : Type 0} (X : Setting D W A B) where
   -- what an accepted Turn of p does, with the pick x
@@ -53,14 +48,14 @@ module _ {D W A B : Type 0} (X : Setting D W A B) where
 
   -- a walk that has gone up to the end tells the worth of its first node, and how many are marked
   abbrev pub tells_settled : Store D → Store D → Notes W → ℕ → Outcome D W
-  tells_settled old new notes p = cond (is_idle (new.run p)) (Ended (WorthIs (notes.worths (last old p)) (marked X.nodes notes.marks))) StillRunning
+  tells_settled old new notes p = cond (is_idle (new.run p)) (Ok (Ended (WorthIs (notes.worths (last old p)) (marked X.nodes notes.marks)))) (Ok StillRunning)
 
   abbrev pub moved_as : System D W A B → ℕ → ℕ → Decision D W → Told D W → Moved
   moved_as F p x d (Tells o) =
       record { store = stepped X.parties X.nodes F.store F.info p x d; info = data_after X.parties X.nodes F.store F.info p x d; notes = F.notes p; outcome = o }
-  moved_as F p x d (Settles t e ks) =
-      let after = settled_store X.worth X.blank F.store (F.notes p) p t ks in
-      let notes = settled_notes X.worth X.blank F.store (F.notes p) p t e ks in
+  moved_as F p x d (Settles r) =
+      let after = settled_store X.worth X.blank F.store (F.notes p) p r.situation r.kids in
+      let notes = settled_notes X.worth X.blank F.store (F.notes p) p r.situation r.given r.kids in
       record { store = after; info = F.info; notes = notes; outcome = tells_settled F.store after notes p }
 
   abbrev pub moved : System D W A B → ℕ → ℕ → Moved
@@ -90,15 +85,15 @@ module _ {D W A B : Type 0} (X : Setting D W A B) where
 
   -- one Begin or Turn with what it tells; refused, it changes nothing and may be given any lists
   pub data Moves (F : System D W A B) : Event D → Outcome D W → System D W A B → Type 0 where
-    begin_refused : {p : ℕ} {a : Asked D} {l : Lengths} {o : Outcome D W} {G : System D W A B} (e : Refusal) → begin_fault_of F p a l ≡ Some e → o ≡ Refused e → G ≡ F → Moves F (begins p a l) o G
+    begin_refused : {p : ℕ} {a : Asked D} {l : Lengths} {o : Outcome D W} {G : System D W A B} (e : Refusal) → begin_fault_of F p a l ≡ Some e → o ≡ Err e → G ≡ F → Moves F (Begins p a l) o G
     call_begun : {p : ℕ} {c : Call D} {l : Lengths} {o : Outcome D W} {G : System D W A B} → begin_fault_of F p (AsksCall c) l ≡ None
-        → o ≡ tells_begun c → G ≡ with_store F (started c F.store p) → Moves F (begins p (AsksCall c) l) o G
+        → o ≡ tells_begun c → G ≡ with_store F (started c F.store p) → Moves F (Begins p (AsksCall c) l) o G
     walk_begun : {p : ℕ} {w : Walk} {l : Lengths} {o : Outcome D W} {G : System D W A B} (t : Situation) (worths : ℕ → W) → begin_fault_of F p (AsksWalk w) l ≡ None
-        → Describes t w.range w.gear w.temperature → o ≡ Begun → G ≡ with_walk F (started_walk w.slot t F.store p) p worths → Moves F (begins p (AsksWalk w) l) o G
-    turn_refused : {p : ℕ} {l : Lengths} {o : Outcome D W} {G : System D W A B} (e : Refusal) → turn_fault X.parties X.nodes p l (F.store.run p) ≡ Some e → o ≡ Refused e → G ≡ F → Moves F (turns p l) o G
-    turn : {p : ℕ} {l : Lengths} {o : Outcome D W} {G : System D W A B} → turn_fault X.parties X.nodes p l (F.store.run p) ≡ None → Steps F p o G → Moves F (turns p l) o G
-    walk_turn_refused : {p : ℕ} {l : Lengths} {o : Outcome D W} {G : System D W A B} (e : Refusal) → walk_turn_fault X.parties X.nodes p l (F.store.run p) ≡ Some e → o ≡ Refused e → G ≡ F → Moves F (walk_turns p l) o G
-    walk_turn : {p : ℕ} {l : Lengths} {o : Outcome D W} {G : System D W A B} → walk_turn_fault X.parties X.nodes p l (F.store.run p) ≡ None → Steps F p o G → Moves F (walk_turns p l) o G
+        → Describes t w.range w.gear w.temperature → o ≡ Ok Begun → G ≡ with_walk F (started_walk w.slot t F.store p) p worths → Moves F (Begins p (AsksWalk w) l) o G
+    turn_refused : {p : ℕ} {l : Lengths} {o : Outcome D W} {G : System D W A B} (e : Refusal) → turn_fault X.parties X.nodes p l (F.store.run p) ≡ Some e → o ≡ Err e → G ≡ F → Moves F (Turns p l) o G
+    turn : {p : ℕ} {l : Lengths} {o : Outcome D W} {G : System D W A B} → turn_fault X.parties X.nodes p l (F.store.run p) ≡ None → Steps F p o G → Moves F (Turns p l) o G
+    walk_turn_refused : {p : ℕ} {l : Lengths} {o : Outcome D W} {G : System D W A B} (e : Refusal) → walk_turn_fault X.parties X.nodes p l (F.store.run p) ≡ Some e → o ≡ Err e → G ≡ F → Moves F (WalkTurns p l) o G
+    walk_turn : {p : ℕ} {l : Lengths} {o : Outcome D W} {G : System D W A B} → walk_turn_fault X.parties X.nodes p l (F.store.run p) ≡ None → Steps F p o G → Moves F (WalkTurns p l) o G
 
   abbrev pub Log : Type 0
   Log = List (Event D × Outcome D W)
@@ -120,28 +115,28 @@ abbrev pub ends_call : Refusal → Bool
 ends_call e = nat_le 17 (number_of e)
 
 abbrev pub is_turn_of : {D : Type 0} → ℕ → Event D → Bool
-is_turn_of p e = elim e [ begins q a l ↦ false | turns q l ↦ nat_eq p q | walk_turns q l ↦ nat_eq p q ]
+is_turn_of p e = elim e [ Begins q a l ↦ false | Turns q l ↦ nat_eq p q | WalkTurns q l ↦ nat_eq p q ]
 
 module _ {D W : Type 0} where
   -- the outcome of an accepted Turn, or of a Begin that is not refused with 11
   abbrev pub is_accepted : Outcome D W → Bool
-  is_accepted o = elim o [ Refused e ↦ ends_call e | Begun ↦ true | StillRunning ↦ true | Ended x ↦ true ]
+  is_accepted o = elim o [ Err e ↦ ends_call e | Ok progress ↦ true ]
 
   abbrev pub is_end : Outcome D W → Bool
-  is_end o = elim o [ Refused e ↦ ends_call e | Begun ↦ false | StillRunning ↦ false | Ended x ↦ true ]
+  is_end o = elim o [ Err e ↦ ends_call e | Ok progress ↦ elim progress [ Begun ↦ false | StillRunning ↦ false | Ended x ↦ true ] ]
 
   -- what a Begin or a Turn puts into the order of calls and walks: one that ends or is refused at its Begin, but not
   -- for being busy, stands there; one that ends at a Turn stands at that Turn
   abbrev pub placed : (ℕ → Ask D) → Event D → Outcome D W → List (Ask D × Outcome D W)
-  placed asked (begins p a l) o = elim o [ Refused e ↦ cond (number_of e == 11) [] ((record { party = p; asked = a; lengths = l }, Refused e) ∷ []) | Begun ↦ [] | StillRunning ↦ [] | Ended x ↦ (record { party = p; asked = a; lengths = l }, Ended x) ∷ [] ]
-  placed asked (turns p l) o = cond (is_end o) ((asked p, o) ∷ []) []
-  placed asked (walk_turns p l) o = cond (is_end o) ((asked p, o) ∷ []) []
+  placed asked (Begins p a l) o = elim o [ Err e ↦ cond (number_of e == 11) [] ((record { party = p; asked = a; lengths = l }, Err e) ∷ []) | Ok progress ↦ elim progress [ Begun ↦ [] | StillRunning ↦ [] | Ended x ↦ (record { party = p; asked = a; lengths = l }, Ok (Ended x)) ∷ [] ] ]
+  placed asked (Turns p l) o = cond (is_end o) ((asked p, o) ∷ []) []
+  placed asked (WalkTurns p l) o = cond (is_end o) ((asked p, o) ∷ []) []
 
   -- what each party has begun
   abbrev pub asked_after : (ℕ → Ask D) → Event D → Outcome D W → ℕ → Ask D
-  asked_after asked (begins p a l) o = elim o [ Begun ↦ upd asked p (record { party = p; asked = a; lengths = l }) | Refused e ↦ asked | StillRunning ↦ asked | Ended x ↦ asked ]
-  asked_after asked (turns p l) o = asked
-  asked_after asked (walk_turns p l) o = asked
+  asked_after asked (Begins p a l) o = elim o [ Err e ↦ asked | Ok progress ↦ elim progress [ Begun ↦ upd asked p (record { party = p; asked = a; lengths = l }) | StillRunning ↦ asked | Ended x ↦ asked ] ]
+  asked_after asked (Turns p l) o = asked
+  asked_after asked (WalkTurns p l) o = asked
 
   -- the ended calls and walks of a log, in the order in which they stand
   abbrev pub history : (ℕ → Ask D) → List (Event D × Outcome D W) → List (Ask D × Outcome D W)

@@ -1,10 +1,12 @@
 -- What a store is for: a kind of data, two search orders, and how many parties and nodes.
 use Rattle.std.specs.Prelude.{ℕ, ◌≤◌, Bool}
-use Rattle.kinds.specs.declared.given.Given.{Given}
+use Rattle.kinds.specs.declared.kids.PerKid.{PerKid}
+use Rattle.kinds.specs.declared.kind.Kind.{Ghosts as KindMeaning}
+use Rattle.orders.specs.declared.order.Order.{Ghosts as OrderMeaning}
 use Rattle.orders.specs.Limits.{last_party, largest_size}
 use Rattle.model.specs.Types.{Situation}
 
--- a search order by its meaning
+-- what an order means
 pub record Meaning (O : Type 0) : Type 0 where
   pub numbers : O → ℕ
   pub horizon : O → ℕ
@@ -12,7 +14,7 @@ pub record Meaning (O : Type 0) : Type 0 where
 
 -- D is the kind's data and W its worths; A are node orders, B party orders
 pub record Setting (D W A B : Type 0) : Type 0 where
-  pub suits : D → Given → Bool
+  pub suits : D → PerKid Bool → Bool
   pub worth : D → Situation → W → W → W → W
   pub blank : W
   pub node_order : Meaning A
@@ -27,14 +29,18 @@ pub record WithinLimits {D W A B : Type 0} (X : Setting D W A B) : Type 0 where
   pub some_node : 1 ≤ X.nodes
   pub few_nodes : X.nodes ≤ largest_size
 
-abbrev pub setting_of : {D W A B : Type 0} → (D → Given → Bool) → (D → Situation → W → W → W → W) → W
-    → (A → ℕ) → (A → ℕ) → (A → ℕ → ℕ → ℕ) → (B → ℕ) → (B → ℕ) → (B → ℕ → ℕ → ℕ) → ℕ → ℕ → Setting D W A B
-setting_of suits worth blank numbers horizon due numbers' horizon' due' N M = record {
-  suits = suits;
-  worth = worth;
-  blank = blank;
-  node_order = record { numbers = numbers; horizon = horizon; due = due };
-  party_order = record { numbers = numbers'; horizon = horizon'; due = due' };
+-- a search order by its meaning
+abbrev pub meaning_of : {O : Type 0} → OrderMeaning O → Meaning O
+meaning_of o = record { numbers = o.numbers; horizon = o.horizon; due = o.due }
+
+-- a store of N parties and M nodes, for a kind of data and two search orders
+abbrev pub setting_for : {K D W A B : Type 0} → KindMeaning K D W → OrderMeaning A → OrderMeaning B → ℕ → ℕ → Setting D W A B
+setting_for kind node_order party_order N M = record {
+  suits = kind.suits;
+  worth = kind.worth;
+  blank = kind.none;
+  node_order = meaning_of node_order;
+  party_order = meaning_of party_order;
   parties = N;
   nodes = M;
 }

@@ -1,15 +1,19 @@
 -- The numbers and values by which outcomes and answers go in sheets and documents.
 use Rattle.std.specs.Prelude.{ℕ}
 use Rattle.refusals.specs.Numbers.{number_of}
-use Rattle.model.specs.Types.{Answer, Done, AtNode, Contents, Swept, WorthIs, Outcome, Refused, Begun, StillRunning, Ended}
+use Rattle.model.specs.Types.{Ok, Err, Answer, Done, AtNode, Contents, Swept, WorthIs, Outcome, Progress, Begun, StillRunning, Ended}
 
 module _ {D W : Type 0} where
-  -- a refusal's own number, 0 for begun and ended, 100 while a call still runs
+  -- 0 for begun and ended, 100 while a call still runs
+  abbrev pub progress_number : Progress D W → ℕ
+  progress_number Begun = 0
+  progress_number StillRunning = 100
+  progress_number (Ended x) = 0
+
+  -- a refusal's own number
   abbrev pub outcome_number : Outcome D W → ℕ
-  outcome_number (Refused e) = number_of e
-  outcome_number Begun = 0
-  outcome_number StillRunning = 100
-  outcome_number (Ended x) = 0
+  outcome_number (Err e) = number_of e
+  outcome_number (Ok progress) = progress_number progress
 
   -- the node that an answer names, 0 where it names none
   abbrev pub node_of : Answer D W → ℕ

@@ -1,6 +1,6 @@
 -- A store of two parties and four nodes, for runs that are exhibited.
 use Rattle.std.specs.Prelude.{ℕ, true, cond, nat_lt}
-use Rattle.model.specs.Checks.{Lengths}
+use Rattle.model.specs.Types.{Lengths}
 use Rattle.model.specs.Setting.{Meaning, Setting}
 
 -- a due of so much, and at most 99

@@ -2,23 +2,8 @@
 -- 0 is no node, no party, no slot.
 use Rattle.std.specs.Prelude.{ℕ, zero, suc, List, [], ◌∷◌, slice_index}
 use Rattle.model.specs.Fun.{upd}
-use Rattle.model.specs.Types.{Kid, First, Second, Third, Kids, Tray, Closed, Running, Idle, TrailRecord}
-
--- kids are counted from 1
-abbrev pub position : Kid → ℕ
-position First = 1
-position Second = 2
-position Third = 3
-
-abbrev pub kid_at : Kids → Kid → ℕ
-kid_at ks First = ks.first
-kid_at ks Second = ks.second
-kid_at ks Third = ks.third
-
-abbrev pub put_kid : Kids → Kid → ℕ → Kids
-put_kid ks First v = record { first = v; second = ks.second; third = ks.third }
-put_kid ks Second v = record { first = ks.first; second = v; third = ks.third }
-put_kid ks Third v = record { first = ks.first; second = ks.second; third = v }
+pub use Rattle.kinds.specs.Kids.{position, kid_at, put_kid}
+use Rattle.model.specs.Types.{Kid, Kids, Tray, Closed, Running, Idle, TrailRecord}
 
 abbrev pub empty_kids : Kids
 empty_kids = record { first = 0; second = 0; third = 0 }

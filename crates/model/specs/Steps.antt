@@ -3,7 +3,7 @@
 use Rattle.std.specs.Prelude.{ℕ, ◌+◌, ◌-◌, Bool, cond, ◌&&◌, ◌==◌, nat_le}
 use Rattle.refusals.specs.declared.Refusal.TheVariants.{NoKid, InboxFull, InboxEmpty}
 use Rattle.model.specs.Fun.{upd}
-use Rattle.model.specs.Types.{Kid, First, Second, Third, Kids, Tray, Closed, Open, Holding, Place, OpenTray, ReadTray, LookForNode, LockNode, Recheck, UnlockAndGoBack, ReadKid, ClearKid, UncountKid, Claim, Unlock, Offer, KeepForOneself, GiveBack, CloseTray, WriteData, CountKid, LinkKid, Plan, Job, Makes, Sweeps, Reading, ReadNothing, ReadData, ReadFirst, ReadSecond, Running, Idle, Reads, GoesDown, Keeps, Drops, Hands, Fetches, TakesOut, Works, WalkReads, WalkGoesDown, Answer, AtNode, Contents, Swept, Outcome, Refused, StillRunning, Ended, Address, Nowhere, CountOf, LockOf, KidOf, DataOf, InboxOf, TrayOf, Word, NoWord, CountWord, LockWord, KidWord, DataWord, InboxWord, TrayWord, Change, Stays, Fills, Lengthens, Tells, Settles, Decision}
+use Rattle.model.specs.Types.{Ok, Err, Kid, First, Second, Third, Kids, Tray, Closed, Open, Holding, Place, OpenTray, ReadTray, LookForNode, LockNode, Recheck, UnlockAndGoBack, ReadKid, ClearKid, UncountKid, Claim, Unlock, Offer, KeepForOneself, GiveBack, CloseTray, WriteData, CountKid, LinkKid, Plan, Job, Makes, Sweeps, Reading, ReadNothing, ReadData, ReadFirst, ReadSecond, Running, Idle, Reads, GoesDown, Keeps, Drops, Hands, Fetches, TakesOut, Works, WalkReads, WalkGoesDown, Answer, AtNode, Contents, Swept, Outcome, StillRunning, Ended, Address, Nowhere, CountOf, LockOf, KidOf, DataOf, InboxOf, TrayOf, Word, NoWord, CountWord, LockWord, KidWord, DataWord, InboxWord, TrayWord, Change, Stays, Fills, Lengthens, Tells, Settles, Decision}
 use Rattle.model.specs.State.{kid_at, Store, set_count, set_lock, set_kid, set_inbox, set_tray, set_slot, set_trail, set_run, last, longer}
 
 abbrev pub between : ℕ → ℕ → ℕ → Bool
@@ -114,17 +114,17 @@ after_kid n Third = Claim n
 
 module _ {D W : Type 0} where
   abbrev pub going : Word D → Running D → Decision D W
-  going w r = record { word = w; change = Stays; next = r; told = Tells StillRunning }
+  going w r = record { word = w; change = Stays; next = r; told = Tells (Ok StillRunning) }
 
   abbrev pub ending : Word D → Change → Answer D W → Decision D W
-  ending w c a = record { word = w; change = c; next = Idle; told = Tells (Ended a) }
+  ending w c a = record { word = w; change = c; next = Idle; told = Tells (Ok (Ended a)) }
 
   abbrev pub ended_by : Outcome D W → Decision D W
   ended_by o = record { word = NoWord; change = Stays; next = Idle; told = Tells o }
 
   -- a word of another sort than the place reads: no store has one there
   abbrev pub stuck : Decision D W
-  stuck = ended_by StillRunning
+  stuck = ended_by (Ok StillRunning)
 
   abbrev pub on_count : Word D → Decision D W → (ℕ → Decision D W) → Decision D W
   on_count w e f = elim w [ CountWord v ↦ f v | NoWord ↦ e | LockWord v ↦ e | KidWord v ↦ e | DataWord v ↦ e | InboxWord v ↦ e | TrayWord v ↦ e ]
@@ -230,15 +230,15 @@ module _ {D W : Type 0} where
   abbrev pub decide : Running D → Word D → ℕ → ℕ → (ℕ → ℕ) → ℕ → Decision D W
   decide Idle w p x slots n = stuck
   decide (Reads g) w p x slots n = read_on g w (λ h. Reads h) (λ d ks. ending NoWord Stays (Contents n d ks))
-  decide (GoesDown k) w p x slots n = on_kid w (λ c. cond (c == 0) (ended_by (Refused NoKid)) (ending NoWord (Lengthens c) (AtNode c)))
+  decide (GoesDown k) w p x slots n = on_kid w (λ c. cond (c == 0) (ended_by (Err NoKid)) (ending NoWord (Lengthens c) (AtNode c)))
   decide (Keeps i) w p x slots n = on_count w stuck (λ c. ending (CountWord (c + 1)) (Fills i n) (AtNode n))
   decide (Drops i) w p x slots n = on_count w stuck (λ c. ending (CountWord (c - 1)) (Fills i 0) (AtNode (slots i)))
-  decide (Hands i q) w p x slots n = on_inbox w (λ b. cond (b == 0) (ending (InboxWord (slots i)) (Fills i 0) (AtNode (slots i))) (ended_by (Refused InboxFull)))
-  decide (Fetches i) w p x slots n = on_inbox w (λ b. cond (b == 0) (ended_by (Refused InboxEmpty)) (going NoWord (TakesOut i b)))
+  decide (Hands i q) w p x slots n = on_inbox w (λ b. cond (b == 0) (ending (InboxWord (slots i)) (Fills i 0) (AtNode (slots i))) (ended_by (Err InboxFull)))
+  decide (Fetches i) w p x slots n = on_inbox w (λ b. cond (b == 0) (ended_by (Err InboxEmpty)) (going NoWord (TakesOut i b)))
   decide (TakesOut i v) w p x slots n = on_inbox w (λ _. ending (InboxWord 0) (Fills i v) (AtNode v))
   decide (Works j c) w p x slots n = decide_place c j w p x slots
-  decide (WalkReads t g) w p x slots n = read_on g w (λ h. WalkReads t h) (λ d ks. record { word = NoWord; change = Stays; next = Idle; told = Settles t d ks })
-  decide (WalkGoesDown t k) w p x slots n = on_kid w (λ c. cond (c == 0) (going NoWord (WalkReads t ReadNothing)) (record { word = NoWord; change = Lengthens c; next = WalkReads t ReadNothing; told = Tells StillRunning }))
+  decide (WalkReads t g) w p x slots n = read_on g w (λ h. WalkReads t h) (λ d ks. record { word = NoWord; change = Stays; next = Idle; told = Settles (record { situation = t; given = d; kids = ks }) })
+  decide (WalkGoesDown t k) w p x slots n = on_kid w (λ c. cond (c == 0) (going NoWord (WalkReads t ReadNothing)) (record { word = NoWord; change = Lengthens c; next = WalkReads t ReadNothing; told = Tells (Ok StillRunning) }))
 
   -- the step of the party p: what it decides on the word that it finds, and the store and the data after it
   abbrev pub decision : ℕ → ℕ → Store D → (ℕ → D) → ℕ → ℕ → Decision D W

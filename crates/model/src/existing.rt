@@ -1,6 +1,6 @@
 // What is promised of every store that can exist, for every kind of data and every two search orders.
 ghost use Rattle.std.specs.Prelude.{◌≡◌, ℕ, ◌+◌, ◌*◌};
-ghost use Rattle.model.specs.Setting.{setting_of};
+ghost use Rattle.model.specs.Setting.{setting_for};
 ghost use Rattle.model.specs.Existing.{CountsAreReferences, CountsAreAtMost, NoNodeReachesItself, NoTrailOutgrowsTheNodes, ReachedDataFits, EachNodeHasOneWorth, EachTermHasOneSize};
 
 use crate::nodes::Node;
@@ -11,13 +11,13 @@ use orders::order::Order;
 
 // Each count is the number of slots, inboxes, trays and kids naming the node, plus one for each party carrying it.
 pub fn counts_are_references<K: Kind, U: Order, V: Order>()
-    ensures { (N M : ℕ) → CountsAreReferences (setting_of K.Kind.suits K.Kind.worth K.Kind.none U.Order.numbers U.Order.horizon U.Order.due V.Order.numbers V.Order.horizon V.Order.due N M) }
+    ensures { (N M : ℕ) → CountsAreReferences (setting_for K.Kind U.Order V.Order N M) }
 {}
 
 // The most that a count can be in a store of so many parties and nodes.
 pub fn most_references<K: Kind, U: Order, V: Order>(parties: Party, nodes: Node) -> Count
     ensures value { result ≡ 12 * parties + 3 * nodes }
-    ensures bound { CountsAreAtMost (setting_of K.Kind.suits K.Kind.worth K.Kind.none U.Order.numbers U.Order.horizon U.Order.due V.Order.numbers V.Order.horizon V.Order.due parties nodes) result }
+    ensures bound { CountsAreAtMost (setting_for K.Kind U.Order V.Order parties nodes) result }
 {
     references(parties, nodes)
 }
@@ -26,30 +26,30 @@ pub fn most_references<K: Kind, U: Order, V: Order>(parties: Party, nodes: Node)
 fn references(parties: Party, nodes: Node) -> Count
     ensures { result ≡ 12 * parties + 3 * nodes }
 {
-    12 * parties as Count + 3 * nodes as Count
+    12 * Count::from(parties) + 3 * Count::from(nodes)
 }
 
 // No node reaches itself through kids.
 pub fn no_node_reaches_itself<K: Kind, U: Order, V: Order>()
-    ensures { (N M : ℕ) → NoNodeReachesItself (setting_of K.Kind.suits K.Kind.worth K.Kind.none U.Order.numbers U.Order.horizon U.Order.due V.Order.numbers V.Order.horizon V.Order.due N M) }
+    ensures { (N M : ℕ) → NoNodeReachesItself (setting_for K.Kind U.Order V.Order N M) }
 {}
 
 // A trail has at most as many nodes as the store.
 pub fn no_trail_outgrows_the_nodes<K: Kind, U: Order, V: Order>()
-    ensures { (N M : ℕ) → NoTrailOutgrowsTheNodes (setting_of K.Kind.suits K.Kind.worth K.Kind.none U.Order.numbers U.Order.horizon U.Order.due V.Order.numbers V.Order.horizon V.Order.due N M) }
+    ensures { (N M : ℕ) → NoTrailOutgrowsTheNodes (setting_for K.Kind U.Order V.Order N M) }
 {}
 
 // The data of every node that a slot or inbox reaches fits its kids.
 pub fn reached_data_fits<K: Kind, U: Order, V: Order>()
-    ensures { (N M : ℕ) → ReachedDataFits (setting_of K.Kind.suits K.Kind.worth K.Kind.none U.Order.numbers U.Order.horizon U.Order.due V.Order.numbers V.Order.horizon V.Order.due N M) }
+    ensures { (N M : ℕ) → ReachedDataFits (setting_for K.Kind U.Order V.Order N M) }
 {}
 
 // In each situation a node works out to a worth, and to no other.
 pub fn each_node_has_one_worth<K: Kind, U: Order, V: Order>()
-    ensures { (N M : ℕ) → EachNodeHasOneWorth (setting_of K.Kind.suits K.Kind.worth K.Kind.none U.Order.numbers U.Order.horizon U.Order.due V.Order.numbers V.Order.horizon V.Order.due N M) }
+    ensures { (N M : ℕ) → EachNodeHasOneWorth (setting_for K.Kind U.Order V.Order N M) }
 {}
 
 // A term has one number of different nodes.
 pub fn each_term_has_one_size<K: Kind, U: Order, V: Order>()
-    ensures { (N M : ℕ) → EachTermHasOneSize (setting_of K.Kind.suits K.Kind.worth K.Kind.none U.Order.numbers U.Order.horizon U.Order.due V.Order.numbers V.Order.horizon V.Order.due N M) }
+    ensures { (N M : ℕ) → EachTermHasOneSize (setting_for K.Kind U.Order V.Order N M) }
 {}

@@ -1,6 +1,6 @@
 // The law of the shared store, for every kind of data and every two search orders, after every list of Begins and Turns.
 ghost use Rattle.std.specs.Prelude.{ℕ};
-ghost use Rattle.model.specs.Setting.{setting_of};
+ghost use Rattle.model.specs.Setting.{setting_for};
 ghost use Rattle.model.specs.Law.{StoreLaw};
 ghost use Rattle.model.specs.FiveCalls.{FiveCallsInterleaved};
 ghost use Rattle.model.specs.Strides.{StridesOpenANewStore};
@@ -12,7 +12,7 @@ use orders::order::Order;
 // with the same answers and refusals and agrees at the end; with nothing running, nodes are free exactly when nodes are out
 // of reach; Makes, other calls and walks end within their bounds. A new store is opened.
 pub fn store_law<K: Kind, U: Order, V: Order>()
-    ensures { (N M : ℕ) → StoreLaw (setting_of K.Kind.suits K.Kind.worth K.Kind.none U.Order.numbers U.Order.horizon U.Order.due V.Order.numbers V.Order.horizon V.Order.due N M) }
+    ensures { (N M : ℕ) → StoreLaw (setting_for K.Kind U.Order V.Order N M) }
 {}
 
 // The law speaks of something: from a new store two parties interleave a Make, a Hand, a Fetch, a walk and a Drop.
@@ -22,5 +22,5 @@ pub fn five_calls_interleaved()
 
 // What the law starts from is met by a new store whose search orders are two strides.
 pub fn strides_open_a_new_store<K: Kind>()
-    ensures { StridesOpenANewStore K.Kind.suits K.Kind.worth K.Kind.none }
+    ensures { StridesOpenANewStore K.Kind }
 {}

@@ -3,13 +3,16 @@
 
 pub mod calls;
 pub mod ending;
+pub mod entries;
 pub mod existing;
 pub mod law;
 pub mod nodes;
 pub mod outcomes;
+pub mod party;
 pub mod place;
 pub mod running;
 pub mod shown;
+pub mod sizes;
 pub mod trail;
 pub mod tray;
 pub mod words;

@@ -1,4 +1,5 @@
-// Numbers of nodes and slots, and the three kids of a node.
+// Numbers of nodes and slots, and the kids of a node.
+use kinds::kids::PerKid;
 use orders::limits::Number;
 
 // A node, from 1; 0 stands for no node.
@@ -9,18 +10,5 @@ pub type Slot = u8;
 
 pub const SLOTS: usize = 8;
 
-// Which of a node's three kids.
-#[derive(Clone, Copy)]
-pub enum Kid {
-    First,
-    Second,
-    Third,
-}
-
 // A number for each kid position: the kids of a node, or the slots that are to give them; 0 for none.
-#[derive(Clone, Copy)]
-pub struct Kids {
-    pub first: Node,
-    pub second: Node,
-    pub third: Node,
-}
+pub type Kids = PerKid<Node>;

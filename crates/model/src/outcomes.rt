@@ -6,7 +6,7 @@ use refusals::Refusal;
 pub type TermSize = u16;
 
 // What a call or walk answers when it ends.
-#[derive(Clone, Copy)]
+#[derive(Clone, Copy, Debug, PartialEq, Eq)]
 pub enum Answer<D, W> {
     // Enter, Up and Leave
     Done,
@@ -20,11 +20,13 @@ pub enum Answer<D, W> {
     WorthIs(W, TermSize),
 }
 
-// What a Begin or a Turn tells.
-#[derive(Clone, Copy)]
-pub enum Outcome<D, W> {
-    Refused(Refusal),
+// How far an accepted Begin or Turn brings its call.
+#[derive(Clone, Copy, Debug, PartialEq, Eq)]
+pub enum Progress<D, W> {
     Begun,
     StillRunning,
     Ended(Answer<D, W>),
 }
+
+// What a Begin or a Turn tells.
+pub type Outcome<D, W> = Result<Progress<D, W>, Refusal>;

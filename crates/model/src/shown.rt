@@ -1,20 +1,29 @@
 ghost use Rattle.std.specs.Prelude.{◌≡◌};
-ghost use Rattle.model.specs.Shown.{node_of, outcome_number, receiver_of, term_size_of};
+ghost use Rattle.model.specs.Shown.{node_of, outcome_number, progress_number, receiver_of, term_size_of};
 
 use crate::nodes::Node;
-use crate::outcomes::{Answer, Outcome, TermSize};
+use crate::outcomes::{Answer, Outcome, Progress, TermSize};
 use orders::limits::Party;
 
-impl<D, W> Outcome<D, W> {
-    // The number by which the outcome goes: the refusal's, 0 for begun or ended, 100 for still running.
+// The number by which an outcome goes: the refusal's, 0 for begun or ended, 100 for still running.
+pub fn outcome_number<D, W>(outcome: &Outcome<D, W>) -> u8
+    ensures { result ≡ outcome_number outcome.now }
+{
+    match outcome {
+        Ok(progress) => progress.number(),
+        Err(refusal) => refusal.number(),
+    }
+}
+
+impl<D, W> Progress<D, W> {
+    // 0 for begun or ended, 100 for still running.
     pub fn number(&self) -> u8
-        ensures { result ≡ outcome_number self.now }
+        ensures { result ≡ progress_number self.now }
     {
         match self {
-            Outcome::Refused(refusal) => refusal.number(),
-            Outcome::Begun => 0,
-            Outcome::StillRunning => 100,
-            Outcome::Ended(_) => 0,
+            Progress::Begun => 0,
+            Progress::StillRunning => 100,
+            Progress::Ended(_) => 0,
         }
     }
 }
@@ -25,11 +34,10 @@ impl<D, W> Answer<D, W> {
         ensures { result ≡ node_of self.now }
     {
         match self {
-            Answer::Done => 0,
             Answer::AtNode(n) => *n,
             Answer::Contents(n, _, _) => *n,
             Answer::Swept(n, _) => *n,
-            Answer::WorthIs(_, _) => 0,
+            Answer::Done | Answer::WorthIs(_, _) => 0,
         }
     }
 

@@ -1,77 +1,85 @@
 ghost use Rattle.std.specs.Prelude.{◌≡◌, ◌+◌, ◌-◌, ◌<◌, true, if◌then◌else◌, Some, None};
 ghost use Rattle.model.specs.Entries.{nth};
+ghost use Rattle.model.specs.State.{last_of, trail_of};
 ghost use Rattle.model.specs.Steps.{decide as decides, decide_place};
 ghost use Rattle.step.specs.Counting.{movable, movable_at};
 
-use crate::decisions::{after_kid, end, end_sweep, go, go_to, is_sweep, stop};
+use crate::decisions::{after_kid, end, end_sweep, go, go_down, go_to, settle, stop, stuck};
 use crate::kid::wanted;
 use crate::linking::{data_given, kid_linked};
-use crate::reading::{go_down, read_on, walk_on};
-use crate::slots::node_of;
-use model::nodes::{Kid, Node, SLOTS};
-use model::outcomes::{Answer, Outcome};
+use crate::reading::read_on;
+use kinds::kids::Kid;
+use model::outcomes::Answer;
+use model::party::PartyRecord;
 use model::place::Place;
 use model::running::{Job, Reading, Running};
 use model::tray::Tray;
-use model::words::{Change, Count, Decision, Word};
+use model::words::{Change, Count, Decision, NodeRead, Word};
 use orders::limits::{Number, Party};
 use refusals::Refusal;
 
 // What the step decides: one match over the call, its place and the word that was read.
 fn ruled<D: Copy, W: Copy>(
-    running: &Running<D>,
+    own: &PartyRecord<D>,
     word: &Word<D>,
     party: Party,
     pick: Number,
-    slots: &[Node; SLOTS],
-    last: Node,
 ) -> Decision<D, W>
-    requires { movable running.now word.now ≡ true }
-    ensures { result ≡ decides running.now word.now party pick (nth 0 slots.now) last }
+    requires { movable own.now.running word.now ≡ true }
+    ensures { result ≡ decides own.now.running word.now party pick (nth 0 own.now.slots) (last_of (trail_of own.now.trail)) }
 {
-    match (*running, *word) {
-        (Running::Reads(_), _) => read_on(running, word, last),
-        (Running::GoesDown(_), Word::KidWord(c)) if c == 0 => stop(Outcome::Refused(
-            Refusal::NoKid,
-        )),
-        (Running::GoesDown(_), Word::KidWord(c)) => end(
-            Word::NoWord,
-            Change::Lengthens(c),
-            Answer::AtNode(c),
+    let last = own.trail.last();
+    match (own.running, *word) {
+        (Running::Reads(reading), _) => read_on(
+            reading,
+            word,
+            |more| Running::Reads(more),
+            |d, kids| end(Word::NoWord, Change::Stays, Answer::Contents(last, d, kids)),
         ),
-        (Running::Keeps(i), Word::CountWord(c)) => end(
-            Word::CountWord(c + 1),
-            Change::Fills(i, last),
-            Answer::AtNode(last),
-        ),
-        (Running::Drops(i), Word::CountWord(c)) => end(
-            Word::CountWord(c - 1),
-            Change::Fills(i, 0),
-            Answer::AtNode(node_of(slots, i)),
-        ),
-        (Running::Hands(i, _), Word::InboxWord(b)) if b == 0 => end(
-            Word::InboxWord(node_of(slots, i)),
-            Change::Fills(i, 0),
-            Answer::AtNode(node_of(slots, i)),
-        ),
-        (Running::Hands(_, _), Word::InboxWord(_)) => stop(Outcome::Refused(Refusal::InboxFull)),
-        (Running::Fetches(_), Word::InboxWord(b)) if b == 0 => stop(Outcome::Refused(
-            Refusal::InboxEmpty,
-        )),
+        (Running::GoesDown(_), Word::KidWord(0)) => stop(Err(Refusal::NoKid)),
+        (Running::GoesDown(_), Word::KidWord(c)) => {
+            end(Word::NoWord, Change::Lengthens(c), Answer::AtNode(c))
+        }
+        (Running::Keeps(i), Word::CountWord(c)) => {
+            end(
+                Word::CountWord(c + 1),
+                Change::Fills(i, last),
+                Answer::AtNode(last),
+            )
+        }
+        (Running::Drops(i), Word::CountWord(c)) => {
+            end(
+                Word::CountWord(c - 1),
+                Change::Fills(i, 0),
+                Answer::AtNode(own.node_of(i)),
+            )
+        }
+        (Running::Hands(i, _), Word::InboxWord(0)) => {
+            let n = own.node_of(i);
+            end(Word::InboxWord(n), Change::Fills(i, 0), Answer::AtNode(n))
+        }
+        (Running::Hands(_, _), Word::InboxWord(_)) => stop(Err(Refusal::InboxFull)),
+        (Running::Fetches(_), Word::InboxWord(0)) => stop(Err(Refusal::InboxEmpty)),
         (Running::Fetches(i), Word::InboxWord(b)) => go(Word::NoWord, Running::TakesOut(i, b)),
-        (Running::TakesOut(i, v), Word::InboxWord(_)) => end(
-            Word::InboxWord(0),
-            Change::Fills(i, v),
-            Answer::AtNode(v),
+        (Running::TakesOut(i, v), Word::InboxWord(_)) => {
+            end(Word::InboxWord(0), Change::Fills(i, v), Answer::AtNode(v))
+        }
+        (Running::Works(job, place), _) => at_place(&job, place, word, own, party, pick),
+        (Running::WalkReads(situation, reading), _) => read_on(
+            reading,
+            word,
+            |more| Running::WalkReads(situation, more),
+            |given, kids| settle(NodeRead {
+                situation,
+                given,
+                kids,
+            }),
         ),
-        (Running::Works(job, place), _) => at_place(&job, place, word, party, pick, slots),
-        (Running::WalkReads(_, _), _) => walk_on(running, word),
-        (Running::WalkGoesDown(t, _), Word::KidWord(c)) if c == 0 => go(
-            Word::NoWord,
-            Running::WalkReads(t, Reading::ReadNothing),
-        ),
+        (Running::WalkGoesDown(t, _), Word::KidWord(0)) => {
+            go(Word::NoWord, Running::WalkReads(t, Reading::ReadNothing))
+        }
         (Running::WalkGoesDown(t, _), Word::KidWord(c)) => go_down(t, c),
-        _ => stop(Outcome::StillRunning),
+        _ => stuck(),
     }
 }
 
@@ -80,14 +88,14 @@ fn at_place<D: Copy, W: Copy>(
     job: &Job<D>,
     place: Place,
     word: &Word<D>,
+    own: &PartyRecord<D>,
     party: Party,
     pick: Number,
-    slots: &[Node; SLOTS],
 ) -> Decision<D, W>
     requires { movable_at place word.now ≡ true }
-    ensures { result ≡ decide_place place job.now word.now party pick (nth 0 slots.now) }
+    ensures { result ≡ decide_place place job.now word.now party pick (nth 0 own.now.slots) }
 {
-    let sweeps = is_sweep(job);
+    let sweeps = matches!(job, Job::Sweeps);
     match (place, *word) {
         (Place::OpenTray, Word::TrayWord(_)) => go_to(
             Word::TrayWord(Tray::Open),
@@ -100,21 +108,19 @@ fn at_place<D: Copy, W: Copy>(
             Place::CloseTray(v),
         ),
         (Place::ReadTray, Word::TrayWord(_)) => go_to(Word::NoWord, job, Place::LookForNode),
-        (Place::LookForNode, Word::CountWord(c)) if c == 0 => go_to(
-            Word::NoWord,
-            job,
-            Place::LockNode(pick),
-        ),
-        (Place::LookForNode, _) if sweeps => end_sweep(Word::NoWord, 0, 0),
-        (Place::LookForNode, _) => go_to(Word::NoWord, job, Place::ReadTray),
-        (Place::LockNode(n), Word::LockWord(l)) if l == 0 => go_to(
+        (Place::LookForNode, Word::CountWord(0)) => go_to(Word::NoWord, job, Place::LockNode(pick)),
+        (Place::LockNode(n), Word::LockWord(0)) => go_to(
             Word::LockWord(party),
             job,
             Place::Recheck(n),
         ),
-        (Place::LockNode(_), Word::LockWord(_)) if sweeps => end_sweep(Word::NoWord, 0, 0),
-        (Place::LockNode(_), Word::LockWord(_)) => go_to(Word::NoWord, job, Place::ReadTray),
-        (Place::Recheck(n), Word::CountWord(c)) if c == 0 => go_to(
+        (Place::LookForNode, _) | (Place::LockNode(_), Word::LockWord(_)) if sweeps => {
+            end_sweep(Word::NoWord, 0, 0)
+        }
+        (Place::LookForNode, _) | (Place::LockNode(_), Word::LockWord(_)) => {
+            go_to(Word::NoWord, job, Place::ReadTray)
+        }
+        (Place::Recheck(n), Word::CountWord(0)) => go_to(
             Word::NoWord,
             job,
             Place::ReadKid(n, Kid::First),
@@ -134,11 +140,7 @@ fn at_place<D: Copy, W: Copy>(
             job,
             Place::ReadTray,
         ),
-        (Place::ReadKid(n, k), Word::KidWord(w)) if w == 0 => go_to(
-            Word::NoWord,
-            job,
-            after_kid(n, k),
-        ),
+        (Place::ReadKid(n, k), Word::KidWord(0)) => go_to(Word::NoWord, job, after_kid(n, k)),
         (Place::ReadKid(n, k), Word::KidWord(w)) => go_to(
             Word::NoWord,
             job,
@@ -156,35 +158,6 @@ fn at_place<D: Copy, W: Copy>(
         ),
         (Place::Claim(n), Word::CountWord(_)) => go_to(Word::CountWord(1), job, Place::Unlock(n)),
         (Place::Unlock(n), Word::LockWord(_)) => go_to(Word::LockWord(0), job, Place::Offer(n)),
-        (Place::Offer(n), Word::CountWord(_)) if sweeps && pick == party => end_sweep(
-            Word::CountWord(0),
-            n,
-            0,
-        ),
-        (Place::Offer(_), _) if sweeps && pick == party => stop(Outcome::StillRunning),
-        (Place::Offer(n), Word::TrayWord(Tray::Open)) if sweeps => end_sweep(
-            Word::TrayWord(Tray::Holding(n)),
-            n,
-            pick,
-        ),
-        (Place::Offer(n), _) if sweeps => go_to(Word::NoWord, job, Place::GiveBack(n)),
-        (Place::Offer(n), Word::TrayWord(Tray::Open)) if pick == party => go_to(
-            Word::TrayWord(Tray::Holding(n)),
-            job,
-            Place::CloseTray(n),
-        ),
-        (Place::Offer(n), Word::TrayWord(_)) if pick == party => go_to(
-            Word::NoWord,
-            job,
-            Place::GiveBack(n),
-        ),
-        (Place::Offer(_), _) if pick == party => stop(Outcome::StillRunning),
-        (Place::Offer(n), Word::TrayWord(Tray::Open)) => go_to(
-            Word::TrayWord(Tray::Holding(n)),
-            job,
-            Place::ReadTray,
-        ),
-        (Place::Offer(n), _) => go_to(Word::NoWord, job, Place::KeepForOneself(n)),
         (Place::KeepForOneself(n), Word::TrayWord(Tray::Open)) => go_to(
             Word::TrayWord(Tray::Holding(n)),
             job,
@@ -206,10 +179,28 @@ fn at_place<D: Copy, W: Copy>(
         (Place::CountKid(v, k), Word::CountWord(c)) => go_to(
             Word::CountWord(c + 1),
             job,
-            Place::LinkKid(v, k, wanted(job, k, slots)),
+            Place::LinkKid(v, k, wanted(job, k, own)),
         ),
         (Place::LinkKid(v, k, w), Word::KidWord(_)) => kid_linked(job, v, k, w),
-        _ => stop(Outcome::StillRunning),
+        (Place::Offer(n), Word::CountWord(_)) if pick == party && sweeps => {
+            end_sweep(Word::CountWord(0), n, 0)
+        }
+        (Place::Offer(n), Word::TrayWord(Tray::Open)) if pick == party && !sweeps => {
+            go_to(Word::TrayWord(Tray::Holding(n)), job, Place::CloseTray(n))
+        }
+        (Place::Offer(n), Word::TrayWord(_)) if pick == party && !sweeps => {
+            go_to(Word::NoWord, job, Place::GiveBack(n))
+        }
+        (Place::Offer(_), _) if pick == party => stuck(),
+        (Place::Offer(n), Word::TrayWord(Tray::Open)) if sweeps => {
+            end_sweep(Word::TrayWord(Tray::Holding(n)), n, pick)
+        }
+        (Place::Offer(n), _) if sweeps => go_to(Word::NoWord, job, Place::GiveBack(n)),
+        (Place::Offer(n), Word::TrayWord(Tray::Open)) => {
+            go_to(Word::TrayWord(Tray::Holding(n)), job, Place::ReadTray)
+        }
+        (Place::Offer(n), _) => go_to(Word::NoWord, job, Place::KeepForOneself(n)),
+        _ => stuck(),
     }
 }
 
@@ -217,11 +208,12 @@ fn at_place<D: Copy, W: Copy>(
 fn can_move<D: Copy>(running: &Running<D>, word: &Word<D>) -> bool
     ensures { result ≡ movable running.now word.now }
 {
-    match (*running, *word) {
-        (Running::Drops(_), Word::CountWord(c)) => c != 0,
-        (Running::Works(_, Place::UncountKid(_, _, _)), Word::CountWord(c)) => c != 0,
-        (Running::Keeps(_), Word::CountWord(c)) => c != Count::MAX,
-        (Running::Works(_, Place::CountKid(_, _)), Word::CountWord(c)) => c != Count::MAX,
+    let Word::CountWord(c) = *word else {
+        return true;
+    };
+    match running {
+        Running::Drops(_) | Running::Works(_, Place::UncountKid(_, _, _)) => c != 0,
+        Running::Keeps(_) | Running::Works(_, Place::CountKid(_, _)) => c != Count::MAX,
         _ => true,
     }
 }
@@ -229,17 +221,12 @@ fn can_move<D: Copy>(running: &Running<D>, word: &Word<D>) -> bool
 // What the step decides on the word that it has read. Nothing where it would take 1 off a count of 0 or add 1 to the
 // largest; no store that can exist has such a count there.
 pub fn decide<D: Copy, W: Copy>(
-    running: &Running<D>,
+    own: &PartyRecord<D>,
     word: &Word<D>,
     party: Party,
     pick: Number,
-    slots: &[Node; SLOTS],
-    last: Node,
 ) -> Option<Decision<D, W>>
-    ensures { result ≡ (if movable running.now word.now then Some (decides running.now word.now party pick (nth 0 slots.now) last) else None) }
+    ensures { result ≡ (if movable own.now.running word.now then Some (decides own.now.running word.now party pick (nth 0 own.now.slots) (last_of (trail_of own.now.trail))) else None) }
 {
-    if !can_move(running, word) {
-        return None;
-    }
-    Some(ruled(running, word, party, pick, slots, last))
+    can_move(&own.running, word).then(|| ruled(own, word, party, pick))
 }

@@ -1,68 +1,22 @@
-ghost use Rattle.std.specs.Prelude.{◌≡◌};
-ghost use Rattle.model.specs.Steps.{going, ending, after_kid};
-ghost use Rattle.model.specs.Steps.{ended_by};
+ghost use Rattle.std.specs.Prelude.{◌≡◌, Ok};
+ghost use Rattle.model.specs.Steps.{after_kid, ended_by, ending, going, stuck};
 ghost use Rattle.model.specs.declared.outcomes.Answer.TheVariants.{Swept};
-ghost use Rattle.model.specs.declared.running.Running.TheVariants.{Works};
-ghost use Rattle.model.specs.declared.words.Change.TheVariants.{Stays};
-ghost use Rattle.step.specs.Onward.{is_sweep};
+ghost use Rattle.model.specs.declared.outcomes.Progress.TheVariants.{StillRunning};
+ghost use Rattle.model.specs.declared.running.Reading.TheVariants.{ReadNothing};
+ghost use Rattle.model.specs.declared.running.Running.TheVariants.{Idle, WalkReads, Works};
+ghost use Rattle.model.specs.declared.words.Change.TheVariants.{Lengthens, Stays};
+ghost use Rattle.model.specs.declared.words.Told.TheVariants.{Settles, Tells};
+ghost use Rattle.model.specs.declared.words.Word.TheVariants.{NoWord};
 
-use model::nodes::{Kid, Node};
-use model::outcomes::{Answer, Outcome};
+use crate::kid::next_kid;
+use kinds::gearbox::Situation;
+use kinds::kids::Kid;
+use model::nodes::Node;
+use model::outcomes::{Answer, Outcome, Progress};
 use model::place::Place;
-use model::running::{Job, Running};
-use model::words::{Change, Decision, Told, Word};
+use model::running::{Job, Reading, Running};
+use model::words::{Change, Decision, NodeRead, Told, Word};
 use orders::limits::Party;
-
-pub(crate) fn is_sweep<D: Copy>(job: &Job<D>) -> bool
-    ensures { result ≡ is_sweep job.now }
-{
-    match *job {
-        Job::Makes(_) => false,
-        Job::Sweeps => true,
-    }
-}
-
-// The call goes on.
-pub(crate) fn go<D: Copy, W: Copy>(word: Word<D>, next: Running<D>) -> Decision<D, W>
-    ensures { result ≡ going word next }
-{
-    Decision {
-        word,
-        change: Change::Stays,
-        next,
-        told: Told::Tells(Outcome::StillRunning),
-    }
-}
-
-// The job goes on at another place.
-pub(crate) fn go_to<D: Copy, W: Copy>(word: Word<D>, job: &Job<D>, place: Place) -> Decision<D, W>
-    ensures { result ≡ going word (Works job.now place) }
-{
-    go(word, Running::Works(*job, place))
-}
-
-// The call ends with an answer.
-pub(crate) fn end<D: Copy, W: Copy>(
-    word: Word<D>,
-    change: Change,
-    answer: Answer<D, W>,
-) -> Decision<D, W>
-    ensures { result ≡ ending word change answer }
-{
-    Decision {
-        word,
-        change,
-        next: Running::Idle,
-        told: Told::Tells(Outcome::Ended(answer)),
-    }
-}
-
-// A Sweep ends.
-pub(crate) fn end_sweep<D: Copy, W: Copy>(word: Word<D>, n: Node, taker: Party) -> Decision<D, W>
-    ensures { result ≡ ending word Stays (Swept n taker) }
-{
-    end(word, Change::Stays, Answer::Swept(n, taker))
-}
 
 // The call ends, and nothing but that has changed.
 pub(crate) fn stop<D: Copy, W: Copy>(outcome: Outcome<D, W>) -> Decision<D, W>
@@ -76,13 +30,79 @@ pub(crate) fn stop<D: Copy, W: Copy>(outcome: Outcome<D, W>) -> Decision<D, W>
     }
 }
 
+// The word is of another sort than the step reads.
+pub(crate) fn stuck<D: Copy, W: Copy>() -> Decision<D, W>
+    ensures { result ≡ stuck }
+{
+    stop(Ok(Progress::StillRunning))
+}
+
+// The call goes on.
+pub(crate) fn go<D: Copy, W: Copy>(word: Word<D>, next: Running<D>) -> Decision<D, W>
+    ensures { result ≡ going word next }
+{
+    Decision {
+        word,
+        next,
+        ..stuck()
+    }
+}
+
+// The job goes on at another place.
+pub(crate) fn go_to<D: Copy, W: Copy>(word: Word<D>, job: &Job<D>, place: Place) -> Decision<D, W>
+    ensures { result ≡ going word (Works job.now place) }
+{
+    go(word, Running::Works(*job, place))
+}
+
+// A walk goes down to the kid.
+pub(crate) fn go_down<D: Copy, W: Copy>(t: Situation, kid: Node) -> Decision<D, W>
+    ensures { result ≡ record { word = NoWord; change = Lengthens kid; next = WalkReads t ReadNothing; told = Tells (Ok StillRunning) } }
+{
+    Decision {
+        change: Change::Lengthens(kid),
+        ..go(Word::NoWord, Running::WalkReads(t, Reading::ReadNothing))
+    }
+}
+
+// The call ends with an answer.
+pub(crate) fn end<D: Copy, W: Copy>(
+    word: Word<D>,
+    change: Change,
+    answer: Answer<D, W>,
+) -> Decision<D, W>
+    ensures { result ≡ ending word change answer }
+{
+    Decision {
+        word,
+        change,
+        ..stop(Ok(Progress::Ended(answer)))
+    }
+}
+
+// A Sweep ends.
+pub(crate) fn end_sweep<D: Copy, W: Copy>(word: Word<D>, n: Node, taker: Party) -> Decision<D, W>
+    ensures { result ≡ ending word Stays (Swept n taker) }
+{
+    end(word, Change::Stays, Answer::Swept(n, taker))
+}
+
+// A walk has read its node.
+pub(crate) fn settle<D: Copy, W: Copy>(read: NodeRead<D>) -> Decision<D, W>
+    ensures { result ≡ record { word = NoWord; change = Stays; next = Idle; told = Settles read } }
+{
+    Decision {
+        told: Told::Settles(read),
+        ..stuck()
+    }
+}
+
 // After a kid the next, after the third the claim.
 pub(crate) fn after_kid(n: Node, k: Kid) -> Place
     ensures { result ≡ after_kid n k }
 {
-    match k {
-        Kid::First => Place::ReadKid(n, Kid::Second),
-        Kid::Second => Place::ReadKid(n, Kid::Third),
-        Kid::Third => Place::Claim(n),
+    match next_kid(k) {
+        Some(next) => Place::ReadKid(n, next),
+        None => Place::Claim(n),
     }
 }

@@ -7,4 +7,3 @@ mod decisions;
 mod kid;
 mod linking;
 mod reading;
-pub mod slots;

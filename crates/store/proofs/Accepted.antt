@@ -1,9 +1,9 @@
 -- A running call's step is always taken, and keeps the store sound.
-use Rattle.std.proofs.Common.{◌≡◌, ℕ, ◌≤◌, true, false, Some, None, Option, sym, ◌∙◌, subst, arith}
+use Rattle.std.proofs.Common.{◌≡◌, ℕ, ◌≤◌, true, false, Some, None, Option, sym, refl, ◌∙◌, subst, arith}
 use mathlib.Core.Logic.{∥∥₁_map}
+use Rattle.std.specs.Option.{IsSome}
 use Rattle.std.proofs.lemmas.Bool.{cond-true}
 use Rattle.orders.specs.Limits.{last_party, largest_size}
-use Rattle.model.specs.declared.words.Decision.{Decision}
 use Rattle.model.specs.declared.words.Told.{Told}
 use Rattle.model.specs.Checks.{is_idle}
 use Rattle.model.specs.Sound.{Sound}
@@ -17,28 +17,30 @@ use Rattle.store.proofs.Readiness.{ready_when_sound}
 pub sound_sized : {D : Type 0} (N N' M M' : ℕ) (s : Store D) → N' ≡ N → M' ≡ M → ∥ Sound N M s ∥₁ → ∥ Sound N' M' s ∥₁
 sound_sized N N' M M' s n m S = subst (λ k. ∥ Sound k M' s ∥₁) (sym n) (subst (λ k. ∥ Sound N k s ∥₁) (sym m) S)
 
-module _ {D : Type 0} (W : Type 0) (N M : ℕ) (s : Store D) (S : ∥ Sound N M s ∥₁) (p : ℕ) (lo : 1 ≤ p) (hi : p ≤ N) (few_parties : N ≤ last_party) (few_nodes : M ≤ largest_size)
-    (entries : ℕ) (long : M ≤ entries) (runs : is_idle (s.run p) ≡ false) (info : ℕ → D) (x : ℕ) (t : Store D) (later : ℕ → D) (r : Option (Told D W)) (h : StepsIfReady {W = W} N M entries s t info later p x r) where
-  abbrev d : Decision D W
-  d = decision {W = W} N M s info p x
+-- limits that a number is within, and an equal one
+pub within_still : (low high n n' : ℕ) → (low ≤ n) × (n ≤ high) → n' ≡ n → (low ≤ n') × (n' ≤ high)
+within_still low high n n' h e = (omega arith, omega arith)
 
-  is_ready_lem : ready N M entries s info p x d ≡ true
-  is_ready_lem = ready_when_sound W N M s S p lo hi few_parties few_nodes entries long info x runs
+-- the step is taken: what it decides is told, and the store and the data are as it makes them
+pub record IsTaken {D : Type 0} (W : Type 0) (N M : ℕ) (s t : Store D) (info later : ℕ → D) (p x : ℕ) (r : Option (Told D W)) : Type 0 where
+  pub store_is : t ≡ stepped N M s info p x (decision {W = W} N M s info p x)
+  pub info_is : later ≡ data_after N M s info p x (decision {W = W} N M s info p x)
+  pub told : r ≡ Some (decision {W = W} N M s info p x).told
+  pub sound : ∥ Sound N M t ∥₁
 
-  pub store_after : t ≡ stepped N M s info p x d
-  store_after = h.store_is ∙ cond-true (ready N M entries s info p x d) (stepped N M s info p x d) s is_ready_lem
+pub is_taken : {D : Type 0} (W : Type 0) (N M : ℕ) (s : Store D) → ∥ Sound N M s ∥₁ → N ≤ last_party → M ≤ largest_size → (p : ℕ) → (1 ≤ p) × (p ≤ N) → is_idle (s.run p) ≡ false
+    → (entries : ℕ) → M ≤ entries → (info : ℕ → D) (x : ℕ) (t : Store D) (later : ℕ → D) (r : Option (Told D W)) → StepsIfReady {W = W} N M entries s t info later p x r → IsTaken W N M s t info later p x r
+is_taken W N M s S few_parties few_nodes p party runs entries long info x t later r h =
+    let d = decision {W = W} N M s info p x in
+    let all : ready N M entries s info p x d ≡ true = ready_when_sound W N M s S p party.0 party.1 few_parties few_nodes entries long info x runs in
+    let store = h.store_is ∙ cond-true (ready N M entries s info p x d) (stepped N M s info p x d) s all in
+    record {
+      store_is = store;
+      info_is = h.info_is ∙ cond-true (ready N M entries s info p x d) (data_after N M s info p x d) info all;
+      told = h.told ∙ cond-true (ready N M entries s info p x d) (Some d.told) None all;
+      sound = ∥∥₁_map S (λ S'. subst (Sound N M) (sym store) (sound_stepped W N M s S' p party.0 party.1 info x runs));
+    }
 
-  pub info_after : later ≡ data_after N M s info p x d
-  info_after = h.info_is ∙ cond-true (ready N M entries s info p x d) (data_after N M s info p x d) info is_ready_lem
-
-  pub told_after_lem : r ≡ Some d.told
-  told_after_lem = h.told ∙ cond-true (ready N M entries s info p x d) (Some d.told) None is_ready_lem
-
-  pub never_none : r ≡ None → ⊥
-  never_none e = let f = told_after_lem in let z : ◌≡◌ {A = ℕ} 0 1 = cc in omega arith
-
-  pub told_is : (y : Told D W) → r ≡ Some y → y ≡ d.told
-  told_is y e = let f = told_after_lem in cc
-
-  pub sound_after : ∥ Sound N M t ∥₁
-  sound_after = ∥∥₁_map S (λ S'. subst (Sound N M) (sym store_after) (sound_stepped W N M s S' p lo hi info x runs))
+-- so something is told
+pub some_told : {T : Type 0} (r : Option T) (x : T) → r ≡ Some x → IsSome r
+some_told r x e = subst IsSome (sym e) refl

@@ -1,13 +1,13 @@
 -- In a sound store all that a step needs is there, and a call that is no walk tells its outcome at once.
-use Rattle.std.proofs.Common.{◌≡◌, ℕ, ◌<◌, ◌≤◌, Bool, true, false, cond, eqb, ◌≢◌, ◌∷◌, sym, refl, ap, ◌∙◌, subst, arith}
+use Rattle.std.proofs.Common.{Err, Ok, ◌≡◌, ℕ, ◌<◌, ◌≤◌, Bool, true, false, cond, eqb, ◌≢◌, ◌∷◌, sym, refl, ap, ◌∙◌, subst, arith}
 use mathlib.Core.Logic.{∥∥₁_elim}
 use mathlib.Core.Bool.{Bool-set}
 use Rattle.std.proofs.lemmas.Bool.{true≢false, and_from, not_from_false, lt-ltb, ne_eqb, eqb-false, cond_both}
 use Rattle.orders.specs.Limits.{last_party, largest_size}
 use Rattle.refusals.specs.declared.Refusal.TheVariants.{NoKid, InboxFull, InboxEmpty}
-use Rattle.model.specs.declared.nodes.Kid.{Kid}
-use Rattle.model.specs.declared.nodes.Kids.{Kids}
-use Rattle.model.specs.declared.nodes.Kid.TheVariants.{First, Second, Third}
+use Rattle.kinds.specs.declared.kids.Kid.{Kid}
+use Rattle.model.specs.Types.{Kids}
+use Rattle.kinds.specs.declared.kids.Kid.TheVariants.{First, Second, Third}
 use Rattle.model.specs.declared.tray.Tray.{Tray}
 use Rattle.model.specs.declared.tray.Tray.TheVariants.{Closed, Open, Holding}
 use Rattle.model.specs.declared.place.Place.{Place}
@@ -20,8 +20,8 @@ use Rattle.model.specs.declared.running.Reading.TheVariants.{ReadNothing, ReadDa
 use Rattle.model.specs.declared.running.Running.{Running}
 use Rattle.model.specs.declared.running.Running.TheVariants.{Idle, Reads, GoesDown, Keeps, Drops, Hands, Fetches, TakesOut, Works, WalkReads, WalkGoesDown}
 use Rattle.model.specs.declared.outcomes.Answer.TheVariants.{AtNode}
-use Rattle.model.specs.declared.outcomes.Outcome.{Outcome}
-use Rattle.model.specs.declared.outcomes.Outcome.TheVariants.{Refused, StillRunning}
+use Rattle.model.specs.Types.{Outcome}
+use Rattle.model.specs.declared.outcomes.Progress.TheVariants.{StillRunning}
 use Rattle.model.specs.declared.words.Address.{Address}
 use Rattle.model.specs.declared.words.Address.TheVariants.{Nowhere, CountOf, TrayOf}
 use Rattle.model.specs.declared.words.Word.{Word}
@@ -42,7 +42,7 @@ use Rattle.model.proofs.Make.{below}
 use Rattle.model.proofs.Paths.{chain_short}
 use Rattle.model.proofs.Reached.{reached_held, reached_counts}
 use Rattle.model.proofs.Refs.{carried_at, carry_other}
-use Rattle.model.proofs.Stepped.{is_within}
+use Rattle.model.proofs.Between.{is_within}
 use Rattle.model.proofs.Tells.{TellsAtOnce, IsFourth, tells_at_once}
 use Rattle.model.proofs.Trails.{term_low, last_reached}
 use Rattle.step.specs.Counting.{largest_count, fits_move, movable}
@@ -60,11 +60,11 @@ module _ {D : Type 0} (N M : ℕ) (s : Store D) (S : Sound N M s) (p : ℕ) (a :
   good_at r e = subst (Good N M s p) e (S.inv.parties p a b)
 
   is_party : between 1 N p ≡ true
-  is_party = is_within N p a b
+  is_party = is_within 1 N p a b
 
   -- a node that is reached is one of the store's
   reached_within : (n : ℕ) → Reached N s n → between 1 M n ≡ true
-  reached_within n r = let h = reached_held N M s S.inv r in is_within M n h.pos h.low
+  reached_within n r = let h = reached_held N M s S.inv r in is_within 1 M n h.pos h.low
 
   -- no count is as large as a count can be
   count_low : N ≤ last_party → M ≤ largest_size → (n : ℕ) → Reached N s n → s.count n < largest_count
@@ -101,7 +101,7 @@ module _ {D : Type 0} (N M : ℕ) (s : Store D) (S : Sound N M s) (p : ℕ) (a :
   slot_made : (y : Plan D) (c : Place) → s.run p ≡ Works (Makes y) c → between 1 last_slot y.slot ≡ true
   slot_made y c e =
       let low : 1 ≤ y.slot = subst Into e (S.into p a b) in
-      is_within last_slot y.slot low ((good_at (Works (Makes y) c) e).1.into_is (omega arith)).0
+      is_within 1 last_slot y.slot low ((good_at (Works (Makes y) c) e).1.into_is (omega arith)).0
 
   -- a trail that can go on to a kid has room for it
   room_down : M ≤ largest_size → (k : Kid) (source : ℕ) (T : Trail) → TrailAt s.kids (s.slot p) source T → kid_at (s.kids (last_of T)) k ≢ 0 → trail_length T < largest_size
@@ -120,7 +120,7 @@ module _ {D : Type 0} (N M : ℕ) (s : Store D) (S : Sound N M s) (p : ℕ) (a :
 
     -- the node that a place works at is one of the store's
     at_node : 1 ≤ (reliance_at c).node → between 1 M (reliance_at c).node ≡ true
-    at_node h = is_within M (reliance_at c).node h (good_at (Works j c) e).0.within
+    at_node h = is_within 1 M (reliance_at c).node h (good_at (Works j c) e).0.within
 
   module _ (W : Type 0) where
     -- what is decided leaves room
@@ -196,7 +196,7 @@ module _ {D : Type 0} (N M : ℕ) (s : Store D) (S : Sound N M s) (p : ℕ) (a :
 
       -- a reading, of a call or of a walk
       reading_stands : (h : Reading D) (n : ℕ) → Reached N s n → stands N M entries (read_address h n) ≡ true
-      reading_stands ReadNothing n r = let u = reached_held N M s S.inv r in is_within entries n u.pos (let v = u.low in omega arith)
+      reading_stands ReadNothing n r = let u = reached_held N M s S.inv r in is_within 1 entries n u.pos (let v = u.low in omega arith)
       reading_stands (ReadData d) n r = reached_within n r
       reading_stands (ReadFirst d i) n r = reached_within n r
       reading_stands (ReadSecond d i j) n r = reached_within n r
@@ -244,7 +244,7 @@ module _ {D : Type 0} (N M : ℕ) (s : Store D) (S : Sound N M s) (p : ℕ) (a :
       place_ready (UncountKid n k w) j e =
           let low = (fit_place j (UncountKid n k w) e).1 in
           let h = taken_counts j n k w e low in
-          (is_within M w low (below N M s S.inv p a b w low h), can_fall D (s.count w) h, refl)
+          (is_within 1 M w low (below N M s S.inv p a b w low h), can_fall D (s.count w) h, refl)
       place_ready (Claim n) j e = (at_node j (Claim n) e (fit_place j (Claim n) e), refl, refl)
       place_ready (Unlock n) j e = (at_node j (Unlock n) e (fit_place j (Unlock n) e), refl, refl)
       place_ready (Offer n) j e = offer_ready j n (at_node j (Offer n) e (fit_place j (Offer n) e))
@@ -253,7 +253,7 @@ module _ {D : Type 0} (N M : ℕ) (s : Store D) (S : Sound N M s) (p : ℕ) (a :
       place_ready (CloseTray v) j e = (is_party, refl, refl)
       place_ready (WriteData v) (Makes y) e =
           let h = good_at (Works (Makes y) (WriteData v)) e in
-          (is_within entries v h.2.0 (let k = h.0.within in omega arith), refl, first_room y (slot_made y (WriteData v) e) v (DataWord y.given))
+          (is_within 1 entries v h.2.0 (let k = h.0.within in omega arith), refl, first_room y (slot_made y (WriteData v) e) v (DataWord y.given))
       place_ready (WriteData v) Sweeps e = absurd (fit_job Sweeps (WriteData v) e)
       place_ready (CountKid v k) (Makes y) e =
           let w = s.slot p (kid_at y.kids k) in
@@ -268,42 +268,42 @@ module _ {D : Type 0} (N M : ℕ) (s : Store D) (S : Sound N M s) (p : ℕ) (a :
       run_ready (Reads h) e = (reading_stands h (last s p) (last_at_lem (Reads h) e refl), refl, reading_room h (last s p) _ _ (λ d ks. refl))
       run_ready (GoesDown k) e =
           let c = kid_at (s.kids (last s p)) k in
-          (reached_within (last s p) (last_at_lem (GoesDown k) e refl), refl, down_room g k (ended_by (Refused NoKid)) (ending NoWord (Lengthens c) (AtNode c)) refl refl)
+          (reached_within (last s p) (last_at_lem (GoesDown k) e refl), refl, down_room g k (ended_by (Err NoKid)) (ending NoWord (Lengthens c) (AtNode c)) refl refl)
       run_ready (Keeps i) e =
           let h = last_at_lem (Keeps i) e refl in
           let u = good_at (Keeps i) e in
           let low : 1 ≤ i = u.2 in
-          (reached_within (last s p) h, can_rise D (s.count (last s p)) (count_low f g (last s p) h), is_within last_slot i low (u.1.into_is (omega arith)).0)
+          (reached_within (last s p) h, can_rise D (s.count (last s p)) (count_low f g (last s p) h), is_within 1 last_slot i low (u.1.into_is (omega arith)).0)
       run_ready (Drops i) e =
           let n = s.slot p i in
           let h = source_reached i e in
           let u = good_at (Drops i) e in
           let low : 1 ≤ i = u.2 in
-          (reached_within n h, can_fall D (s.count n) (reached_counts N M s S.inv n h), is_within last_slot i low (u.1.source_is (omega arith)).0)
+          (reached_within n h, can_fall D (s.count n) (reached_counts N M s S.inv n h), is_within 1 last_slot i low (u.1.source_is (omega arith)).0)
       run_ready (Hands i q) e =
           let n = s.slot p i in
           let u = good_at (Hands i q) e in
           let low : 1 ≤ i = u.2.0 in
-          let slot = is_within last_slot i low (u.1.source_is (omega arith)).0 in
-          (is_within N q u.2.1 u.2.2, refl, either_room (eqb (s.inbox q) 0) (ending (InboxWord n) (Fills i 0) (AtNode n)) (ended_by (Refused InboxFull)) slot refl)
-      run_ready (Fetches i) e = (is_party, refl, either_room (eqb (s.inbox p) 0) (ended_by (Refused InboxEmpty)) (going NoWord (TakesOut i (s.inbox p))) refl refl)
+          let slot = is_within 1 last_slot i low (u.1.source_is (omega arith)).0 in
+          (is_within 1 N q u.2.1 u.2.2, refl, either_room (eqb (s.inbox q) 0) (ending (InboxWord n) (Fills i 0) (AtNode n)) (ended_by (Err InboxFull)) slot refl)
+      run_ready (Fetches i) e = (is_party, refl, either_room (eqb (s.inbox p) 0) (ended_by (Err InboxEmpty)) (going NoWord (TakesOut i (s.inbox p))) refl refl)
       run_ready (TakesOut i v) e =
           let u = good_at (TakesOut i v) e in
           let low : 1 ≤ i = u.2.0 in
-          (is_party, refl, is_within last_slot i low (u.1.into_is (omega arith)).0)
+          (is_party, refl, is_within 1 last_slot i low (u.1.into_is (omega arith)).0)
       run_ready (Works j c) e = place_ready c j e
       run_ready (WalkReads t h) e = (reading_stands h (last s p) (last_at_lem (WalkReads t h) e refl), refl, reading_room h (last s p) _ _ (λ d ks. refl))
       run_ready (WalkGoesDown t k) e =
           let n = kid_at (s.kids (last s p)) k in
           let on = WalkReads t ReadNothing in
-          (reached_within (last s p) (last_at_lem (WalkGoesDown t k) e refl), refl, down_room g k (going NoWord on) (record { word = NoWord; change = Lengthens n; next = on; told = Tells StillRunning }) refl refl)
+          (reached_within (last s p) (last_at_lem (WalkGoesDown t k) e refl), refl, down_room g k (going NoWord on) (record { word = NoWord; change = Lengthens n; next = on; told = Tells (Ok StillRunning) }) refl refl)
 
 -- in a sound store each step of a running call finds what it needs
 pub sound_ready : {D : Type 0} (W : Type 0) (N M : ℕ) (s : Store D) → Sound N M s → (p : ℕ) → 1 ≤ p → p ≤ N → N ≤ last_party → M ≤ largest_size → (entries : ℕ) → M ≤ entries
     → (info : ℕ → D) (x : ℕ) → is_idle (s.run p) ≡ false → ready N M entries s info p x (decision {W = W} N M s info p x) ≡ true
 sound_ready W N M s S p a b f g entries l info x z =
     let h = run_ready N M s S p a b W f g entries l info x (s.run p) refl in
-    and_from _ _ (is_within N p a b) (and_from _ _ h.0 (and_from _ _ h.1 h.2))
+    and_from _ _ (is_within 1 N p a b) (and_from _ _ h.0 (and_from _ _ h.1 h.2))
 
 -- the same where no more is known than that the store is sound
 pub ready_when_sound : {D : Type 0} (W : Type 0) (N M : ℕ) (s : Store D) → ∥ Sound N M s ∥₁ → (p : ℕ) → 1 ≤ p → p ≤ N → N ≤ last_party → M ≤ largest_size → (entries : ℕ) → M ≤ entries
@@ -327,7 +327,7 @@ not_fourth (WalkGoesDown t k) h z = z
 
 told_outcome : {D W : Type 0} (t : Told D W) → TellsAtOnce t → (o : Outcome D W) × (t ≡ Tells o)
 told_outcome (Tells o) h = (o, refl)
-told_outcome (Settles t d ks) h = absurd h
+told_outcome (Settles read) h = absurd h
 
 -- a step of a call that is no walk tells an outcome
 pub told_at_once : {D : Type 0} (W : Type 0) (N M : ℕ) (s : Store D) (info : ℕ → D) (p x : ℕ) → is_walking (s.run p) ≡ false → (o : Outcome D W) × ((decision {W = W} N M s info p x).told ≡ Tells o)

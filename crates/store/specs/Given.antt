@@ -1,22 +1,11 @@
 -- The program's store, its orders and its caller's lists as the model's system.
 use Rattle.std.specs.Prelude.{ℕ, List, [], ◌∷◌}
 use Rattle.kinds.specs.declared.kind.Kind.{Ghosts as KindMeaning}
-use Rattle.orders.specs.declared.order.Order.{Ghosts as OrderMeaning}
 use Rattle.model.specs.Entries.{nth}
 use Rattle.model.specs.Runs.{System}
-use Rattle.model.specs.Setting.{Meaning, Setting, setting_of}
 use Rattle.model.specs.Walks.{Notes}
 use Rattle.cells.specs.declared.records.Cells.{Cells}
 use Rattle.cells.specs.View.{view_of}
-
--- a search order by its meaning
-abbrev pub meaning_of : {O : Type 0} → OrderMeaning O → Meaning O
-meaning_of o = record { numbers = o.numbers; horizon = o.horizon; due = o.due }
-
--- a store of N parties and M nodes, for a kind of data and two search orders
-abbrev pub setting_for : {K D W A B : Type 0} → KindMeaning K D W → OrderMeaning A → OrderMeaning B → ℕ → ℕ → Setting D W A B
-setting_for kind node_order party_order N M =
-    setting_of kind.suits kind.worth kind.none node_order.numbers node_order.horizon node_order.due party_order.numbers party_order.horizon party_order.due N M
 
 -- the data of all zero bytes, which stands for entries that a data list does not have
 abbrev pub zero_data : {K D W : Type 0} → KindMeaning K D W → D

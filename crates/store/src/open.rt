@@ -1,19 +1,28 @@
-ghost use Rattle.std.specs.Prelude.{◌≡◌, ◌≤◌, MatchBool, MatchResult};
+ghost use Rattle.std.specs.Prelude.{◌≡◌, ◌≤◌, MatchResult};
+ghost use Rattle.refusals.specs.declared.Refusal.TheVariants.{OutsideLimits};
 ghost use Rattle.store.specs.Opening.{InLimits, Opens, OpeningFails};
 
 use crate::errors::OpenError;
 use crate::store::Store;
 use cells::records::Cells;
 use kinds::kind::Kind;
+use model::sizes::Sizes;
 use orders::limits::{LARGEST_SIZE, PARTIES};
 use orders::order::Order;
 use refusals::Refusal;
 use std::alloc::Global;
 
-fn in_limits(nodes: u32, parties: u32) -> bool
-    ensures { MatchBool result (InLimits nodes parties) (InLimits nodes parties → ⊥) }
+// 1 to 255 nodes and 1 to 15 parties.
+fn within_limits(nodes: u32, parties: u32) -> Result<Sizes, Refusal>
+    ensures { MatchResult result (λ s. InLimits nodes parties × (s.nodes ≡ nodes) × (s.parties ≡ parties)) (λ e. (InLimits nodes parties → ⊥) × (e ≡ OutsideLimits)) }
 {
-    1 <= nodes && nodes <= LARGEST_SIZE && 1 <= parties && parties <= PARTIES as u32
+    if !(1..=LARGEST_SIZE).contains(&nodes) || !(1..=PARTIES as u32).contains(&parties) {
+        return Err(Refusal::OutsideLimits);
+    }
+    Ok(Sizes {
+        parties: parties as usize,
+        nodes: nodes as usize,
+    })
 }
 
 impl<K: Kind, U: Order + Drop, V: Order + Drop> Store<K, U, V> {
@@ -28,19 +37,17 @@ impl<K: Kind, U: Order + Drop, V: Order + Drop> Store<K, U, V> {
     ) -> Result<Store<K, U, V>, OpenError>
         ensures { MatchResult result (λ s. Opens U.Order.numbers V.Order.numbers nodes parties node_order party_order s.cells s.node_order s.party_order) (λ e. OpeningFails U.Order.numbers V.Order.numbers nodes parties node_order party_order e) }
     {
-        if !in_limits(nodes, parties) {
-            return Err(OpenError::Refused(Refusal::OutsideLimits));
+        let sizes = within_limits(nodes, parties)?;
+        if usize::from(node_order.size()) != sizes.nodes
+            || usize::from(party_order.size()) != sizes.parties
+        {
+            return Err(OpenError::from(Refusal::OrderOfAnotherSize));
         }
-        if node_order.size() as u32 != nodes || party_order.size() as u32 != parties {
-            return Err(OpenError::Refused(Refusal::OrderOfAnotherSize));
-        }
-        match Cells::new(heap, nodes as usize, parties as usize) {
-            Ok(cells) => Ok(Store {
-                cells,
-                node_order,
-                party_order,
-            }),
-            Err(e) => Err(OpenError::NoMemory(e)),
-        }
+        let cells = Cells::new(heap, sizes)?;
+        Ok(Store {
+            cells,
+            node_order,
+            party_order,
+        })
     }
 }

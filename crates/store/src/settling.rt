@@ -3,43 +3,42 @@ ghost use Rattle.std.specs.Prelude.{◌≡◌, ◌≤◌, true, length};
 ghost use Rattle.model.specs.State.{last};
 ghost use Rattle.model.specs.Steps.{between};
 ghost use Rattle.cells.specs.View.{view_of, parties_of, SameSizes};
+ghost use Rattle.walks.specs.Notes.{SameLists};
 ghost use Rattle.store.specs.Moved.{FurtherStay};
 ghost use Rattle.store.specs.Settled.{Settled};
 
 use cells::records::Cells;
-use kinds::gearbox::Situation;
 use kinds::kind::Kind;
-use model::nodes::{Kids, Node};
-use model::outcomes::{Answer, Outcome};
+use model::nodes::Node;
+use model::outcomes::{Answer, Outcome, Progress};
+use model::words::NodeRead;
 use orders::limits::Party;
-use walks::marks::{count_marked, first_unmarked};
-use walks::worths::{set_down, worth_at};
+use walks::notes::Notes;
 
 // On to the first unmarked kid; where there is none, the node's worth is noted and the walk goes up. At the top it ends.
 pub(crate) fn settle<K: Kind>(
     cells: &mut Cells<K::Data>,
     nodes: Node,
     party: Party,
-    situation: Situation,
-    d: K::Data,
-    kids: Kids,
-    marks: &mut [bool],
-    worths: &mut [K::Worth],
+    read: NodeRead<K::Data>,
+    notes: &mut Notes<'_, K::Worth>,
 ) -> Outcome<K::Data, K::Worth>
     requires party { between 1 (parties_of cells.old) party ≡ true }
     requires node { between 1 nodes (last (view_of cells.old) party) ≡ true }
-    requires lists { (nodes ≤ length marks.old) × (nodes ≤ length worths.old) }
-    ensures settled { Settled K.Kind nodes (view_of cells.old) (view_of cells.new) party situation d kids marks.old marks.new worths.old worths.new result }
-    ensures further { FurtherStay K.Kind.none nodes marks.old marks.new worths.old worths.new }
+    requires lists { (nodes ≤ length notes.old.marks.now) × (nodes ≤ length notes.old.worths.now) }
+    ensures settled { Settled K.Kind nodes (view_of cells.old) (view_of cells.new) party read notes.old notes.new result }
+    ensures further { FurtherStay K.Kind nodes notes.old notes.new }
     ensures sizes { SameSizes cells.old cells.new }
+    ensures same_lists { SameLists notes.old notes.new }
 {
     let node = cells.last(party);
-    let below = first_unmarked(marks, nodes, kids);
+    let below = notes.first_unmarked(nodes, read.kids);
     if below.is_none() {
-        set_down::<K>(marks, worths, nodes, node, d, situation, kids);
+        notes.set_down::<K>(nodes, node, read);
     }
-    if !cells.go_on(party, situation, below) {
-        return Outcome::StillRunning;
+    if !cells.go_on(party, read.situation, below) {
+        return Ok(Progress::StillRunning);
     }
-    Outcome::Ended(Answer::WorthIs(worth_at::<K>(worths, node), count_marked(marks, nodes)))
+    let worth = notes.worth_at::<K>(node);
+    Ok(Progress::Ended(Answer::WorthIs(worth, notes.count_marked(nodes))))
 }

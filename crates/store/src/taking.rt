@@ -4,7 +4,8 @@ ghost use Rattle.model.specs.Checks.{is_idle};
 ghost use Rattle.model.specs.Runs.{Asks, asks_nodes, asks_parties};
 ghost use Rattle.model.specs.Walks.{Notes};
 ghost use Rattle.cells.specs.View.{view_of, parties_of, nodes_of, SameSizes};
-ghost use Rattle.store.specs.Given.{meaning_of, setting_for, system_of};
+ghost use Rattle.model.specs.Setting.{meaning_of, setting_for};
+ghost use Rattle.store.specs.Given.{system_of};
 ghost use Rattle.store.specs.Taken.{Taken};
 
 use crate::store::Store;
@@ -33,6 +34,9 @@ fn pick<D: Copy, U: Order, V: Order>(
 }
 
 impl<K: Kind, U: Order + Drop, V: Order + Drop> Store<K, U, V> {
+    ghost use Rattle.store.specs.Moved.{TakesStep};
+    ghost use Rattle.store.specs.Shown.{shown};
+
     // The next step of what the party is running.
     pub(crate) fn take_step(
         &mut self,
@@ -42,14 +46,10 @@ impl<K: Kind, U: Order + Drop, V: Order + Drop> Store<K, U, V> {
         requires party { (1 ≤ party) × (party ≤ parties_of self.old.cells) }
         requires entries { nodes_of self.old.cells ≤ length «data».old }
         requires runs { is_idle ((view_of self.old.cells).run party) ≡ false }
-        ensures taken { (notes : ℕ → Notes K.Worth) → Taken (setting_for K.Kind U.Order V.Order (parties_of self.old.cells) (nodes_of self.old.cells)) (system_of K.Kind self.old.cells self.old.node_order self.old.party_order «data».old notes) (system_of K.Kind self.new.cells self.new.node_order self.new.party_order «data».new notes) party result }
-        ensures sizes { SameSizes self.old.cells self.new.cells }
+        ensures { TakesStep K.Kind U.Order V.Order party result (shown self.old «data».old) (shown self.new «data».new) }
     {
         let running = self.cells.running(party);
         let number = pick(&mut self.node_order, &mut self.party_order, &running, party);
-        match self.cells.step(data, party, number) {
-            Some(told) => told,
-            None => unreachable(),
-        }
+        self.cells.step(data, party, number).unwrap()
     }
 }

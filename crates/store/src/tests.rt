@@ -1,14 +1,17 @@
 // A store of maps with strides as its orders: which opens, and two tasks that take turns on one.
 use crate::errors::OpenError;
 use crate::store::Store;
+use kinds::kids::PerKid;
 use kinds::maps::{Kpa, MapData, Maps};
 use model::calls::{Call, Walk};
-use model::nodes::{Kids, Node};
-use model::outcomes::{Answer, Outcome, TermSize};
+use model::nodes::Node;
+use model::outcomes::{Answer, Outcome, Progress, TermSize};
 use model::running::Plan;
+use model::shown::outcome_number;
 use orders::stride::Stride;
 use std::alloc::Global;
 use std::test::Fail;
+use walks::notes::Notes;
 
 // Nodes, parties, the sizes of the two orders, and the refusal's number, or 0.
 const OPENINGS: [(u32, u32, u32, u32, u8); 10] = [
@@ -52,7 +55,7 @@ fn openings(rt: HostRuntime) -> Result<(), Fail> {
 // The node of a call that ended, 0 where it did not.
 fn ended_at(outcome: Outcome<MapData, Kpa>) -> Node {
     match outcome {
-        Outcome::Ended(answer) => answer.node(),
+        Ok(Progress::Ended(answer)) => answer.node(),
         _ => 0,
     }
 }
@@ -60,7 +63,7 @@ fn ended_at(outcome: Outcome<MapData, Kpa>) -> Node {
 // The worth and the size of a walk that ended, zeros where it did not.
 fn worth_told(outcome: Outcome<MapData, Kpa>) -> (Kpa, TermSize) {
     match outcome {
-        Outcome::Ended(Answer::WorthIs(worth, size)) => (worth, size),
+        Ok(Progress::Ended(Answer::WorthIs(worth, size))) => (worth, size),
         _ => (0, 0),
     }
 }
@@ -82,23 +85,21 @@ fn two_parties_take_turns(rt: HostRuntime) -> Result<(), Fail> {
     let mut data = [MapData { code: 0, number: 0 }; 2];
     let plan = Plan {
         slot: 1,
-        kids: Kids {
-            first: 0,
-            second: 0,
-            third: 0,
-        },
+        kids: PerKid::all(0),
         given: number,
     };
-    assert_eq!(rt; store.begin(1, Call::Make(plan), &data).number(), 0);
+    assert_eq!(rt; outcome_number(&store.begin(1, Call::Make(plan), &data)), 0);
     for _ in 0..13 {
-        assert_eq!(rt; store.turn(1, &mut data).number(), 100);
+        assert_eq!(rt; outcome_number(&store.turn(1, &mut data)), 100);
     }
-    assert_eq!(rt; store.begin(2, Call::Drop(1), &data).number(), 13);
+    assert_eq!(rt; outcome_number(&store.begin(2, Call::Drop(1), &data)), 13);
     assert_eq!(rt; ended_at(store.turn(1, &mut data)), 2);
     assert_eq!(rt; data[1].number, 350);
     assert_eq!(rt; data[0].number, 0);
-    let mut marks = [true; 2];
-    let mut worths = [0; 2];
+    let mut notes = Notes {
+        marks: &mut [true; 2],
+        worths: &mut [0; 2],
+    };
     let walk = Walk {
         slot: 1,
         range: 0,
@@ -106,23 +107,20 @@ fn two_parties_take_turns(rt: HostRuntime) -> Result<(), Fail> {
         temperature: 90,
     };
     assert_eq!(rt;
-        store
-            .begin_walk(1, walk, &data, &mut marks, &worths)
-            .number(),
+        outcome_number(&store.begin_walk(1, walk, &data, &mut notes)),
         0
     );
     for _ in 0..3 {
         assert_eq!(rt;
-            store
-                .turn_walk(1, &mut data, &mut marks, &mut worths)
-                .number(),
+            outcome_number(&store.turn_walk(1, &mut data, &mut notes)),
             100
         );
     }
-    let (worth, size) = worth_told(store.turn_walk(1, &mut data, &mut marks, &mut worths));
-    assert_eq!(rt; worth, 350);
-    assert_eq!(rt; size, 1);
-    assert_eq!(rt; store.begin(1, Call::Hand(1, 2), &data).number(), 0);
+    assert_eq!(rt;
+        worth_told(store.turn_walk(1, &mut data, &mut notes)),
+        (350, 1)
+    );
+    assert_eq!(rt; outcome_number(&store.begin(1, Call::Hand(1, 2), &data)), 0);
     assert_eq!(rt; ended_at(store.turn(1, &mut data)), 2);
     Ok(())
 }

@@ -1,14 +1,15 @@
 -- What reads and writes of the two lists are to a walk's notes.
-use Rattle.std.proofs.Common.{◌≡◌, ℕ, zero, suc, ◌+◌, ◌-◌, ◌<◌, ◌≤◌, min, Bool, true, false, cond, ◌&&◌, leb, List, length, get_or, set, refl, ap, ◌∙◌, inl, inr, add-one, arith}
+use Rattle.std.proofs.Common.{◌≡◌, ℕ, zero, suc, ◌-◌, ◌≤◌, min, Bool, true, false, ◌&&◌, leb, List, length, get_or, set, take, count_by, refl, ap, ◌∙◌, inl, inr, arith}
 use mathlib.Core.Path.{fun_ext}
-use Rattle.std.proofs.lemmas.List.{get_or_past}
-use Rattle.std.proofs.lemmas.Bool.{cases_eq, cases_lt, ne_eqb}
+use Rattle.std.proofs.lemmas.List.{get_or_past, take_all, take_min}
+use Rattle.std.proofs.lemmas.List.Sums.{count_by_more_yes, count_by_more_no}
+use Rattle.std.proofs.lemmas.Bool.{cases_Bool, cases_eq, cases_lt}
 use Rattle.std.proofs.lemmas.Bool.Decides.{nat_tests}
-use Rattle.model.specs.declared.nodes.Kids.{Kids}
 use Rattle.model.specs.Entries.{nth}
 use Rattle.model.specs.Fun.{upd, sum_to}
-use Rattle.model.specs.Walks.{marked, first_unmarked, kid_worth, noted}
-use Rattle.model.proofs.Entries.{nth_set}
+use Rattle.model.specs.Types.{Kids}
+use Rattle.model.specs.Walks.{marked, first_unmarked, noted}
+use Rattle.model.proofs.EntryLemmas.{nth_set}
 use Rattle.model.proofs.Sums.{upd_other}
 use Rattle.walks.specs.Notes.{marks_of, notes_of, marks_alone, has_entries}
 
@@ -16,41 +17,20 @@ use Rattle.walks.specs.Notes.{marks_of, notes_of, marks_alone, has_entries}
 pub marks_alone_tell : {W : Type 0} (blank : W) (M : ℕ) (marks : List Bool) (worths : List W) (ks : Kids) → first_unmarked (marks_alone M marks) ks ≡ first_unmarked (notes_of blank M marks worths) ks
 marks_alone_tell blank M marks worths ks = refl
 
--- counting marks, one node more
-pub marked_none : (f : ℕ → Bool) → 0 ≡ marked 0 f
+-- the marks of the first n nodes stand at the front of the list
+marked_in_front : (M : ℕ) (marks : List Bool) (n : ℕ) → n ≤ M → count_by (λ b. b) (take n marks) ≡ marked n (marks_of M marks)
 unfolding sum_to
-marked_none f = refl
-
-marked_more : (n : ℕ) (f : ℕ → Bool) → marked (n + 1) f ≡ marked n f + cond (f (n + 1)) 1 0
-unfolding sum_to
-marked_more n f = rw add-one
-
-pub marked_yes : (n : ℕ) (f : ℕ → Bool) → f (n + 1) ≡ true → marked (n + 1) f ≡ marked n f + 1
-marked_yes n f is = marked_more n f ∙ rw is
-
-pub marked_no : (n : ℕ) (f : ℕ → Bool) → f (n + 1) ≡ false → marked (n + 1) f ≡ marked n f
-marked_no n f is = let e : ◌≡◌ {A = ℕ} (cond (f (n + 1)) 1 0) 0 = rw is in omega (arith, marked_more n f)
-
--- the first marks are off, as many as there are
-pub all_cleared : (M end : ℕ) (marks : List Bool) → min (length marks) M ≤ end → ((k : ℕ) → k < end → get_or marks k false ≡ false) → (n : ℕ) → marks_of M marks n ≡ false
-all_cleared M end marks enough off zero = grind (arith, nat_tests)
-all_cleared M end marks enough off (suc k) = elim (cases_lt k end) [
-  | inl h ↦ let e = off k h in grind (arith, nat_tests)
-  | inr h ↦ elim (cases_lt k M) [
-    | inl inside ↦ let e = get_or_past marks k false (omega arith) in grind (arith, nat_tests)
-    | inr beyond ↦ grind (arith, nat_tests)
+marked_in_front M marks zero h = refl
+marked_in_front M marks (suc n) h = elim (cases_lt n (length marks)) [
+  | inl inside ↦ elim (cases_Bool (get_or marks n false)) [
+    | inl on ↦ grind (arith, nat_tests, marked_in_front M marks n (omega arith), count_by_more_yes (λ b. b) marks n false inside on)
+    | inr off ↦ grind (arith, nat_tests, marked_in_front M marks n (omega arith), count_by_more_no (λ b. b) marks n false inside off)
   ]
+  | inr past ↦ grind (arith, nat_tests, marked_in_front M marks n (omega arith), get_or_past marks n false past, take_all n marks past, take_all (suc n) marks (omega arith))
 ]
 
--- the marks beyond stay
-pub further_kept : (M end : ℕ) (marks old : List Bool) → end ≤ M → ((k : ℕ) → end ≤ k → get_or marks k false ≡ get_or old k false) → (n : ℕ) → M < n → nth false marks n ≡ nth false old n
-further_kept M end marks old high same zero h = refl
-further_kept M end marks old high same (suc k) h = same k (omega arith)
-
--- what stands on the list for a kid; the blank stands for number 0
-pub kid_worth_read : {W : Type 0} (blank : W) (M : ℕ) (marks : List Bool) (worths : List W) (n : ℕ) → nth blank worths n ≡ kid_worth (notes_of blank M marks worths) blank n
-kid_worth_read blank M marks worths zero = refl
-kid_worth_read blank M marks worths (suc n) = rw (ne_eqb (suc n) 0 (λ e. omega arith))
+pub marked_counted : (M : ℕ) (marks : List Bool) → count_by (λ b. b) (take (min M (length marks)) marks) ≡ marked M (marks_of M marks)
+marked_counted M marks = rw (take_min M marks) (marked_in_front M marks M (omega arith))
 
 mark_set : (M : ℕ) (marks : List Bool) (n : ℕ) → 1 ≤ n → n ≤ M → M ≤ length marks → marks_of M (set marks (n - 1) true) ≡ upd (marks_of M marks) n true
 mark_set M marks n low high long = fun_ext (λ m. ap (λ f. leb m M && f m) (nth_set false marks n true low (omega arith)) ∙ go m)
@@ -59,18 +39,23 @@ mark_set M marks n low high long = fun_ext (λ m. ap (λ f. leb m M && f m) (nth
     go m = elim (cases_eq m n) [ inl e ↦ grind (arith, nat_tests) | inr h ↦ grind (arith, nat_tests) ]
 
 -- what the test for entries tells
-pub entries_there : {W : Type 0} (M : ℕ) (marks : List Bool) (worths : List W) (n : ℕ) → has_entries M marks worths n ≡ true → (1 ≤ n) × (n ≤ M) × (M ≤ length marks) × (M ≤ length worths)
+entries_there : {W : Type 0} (M : ℕ) (marks : List Bool) (worths : List W) (n : ℕ) → has_entries M marks worths n ≡ true → (1 ≤ n) × (n ≤ M) × (M ≤ length marks) × (M ≤ length worths)
 entries_there M marks worths n there = (grind (arith, nat_tests), grind (arith, nat_tests), grind (arith, nat_tests), grind (arith, nat_tests))
 
--- a mark and a worth written at n - 1 are the notes with n noted
-pub noted_by_writes : {W : Type 0} (blank : W) (M : ℕ) (marks marks-after : List Bool) (worths worths-after : List W) (n : ℕ) (w : W)
-    → (1 ≤ n) × (n ≤ M) × (M ≤ length marks) × (M ≤ length worths) → marks-after ≡ set marks (n - 1) true → worths-after ≡ set worths (n - 1) w
-    → notes_of blank M marks-after worths-after ≡ noted (notes_of blank M marks worths) n w
-noted_by_writes blank M marks marks-after worths worths-after n w there p q =
-    let a : marks_of M marks-after ≡ upd (marks_of M marks) n true = ap (marks_of M) p ∙ mark_set M marks n there.0 there.1 there.2 in
-    let b : nth blank worths-after ≡ upd (nth blank worths) n w = ap (nth blank) q ∙ nth_set blank worths n w there.0 (omega arith) in
-    cc
+module _ {W : Type 0} (blank : W) (M : ℕ) (marks : List Bool) (worths : List W) (n i : ℕ) (w : W) (there : has_entries M marks worths n ≡ true) (at : i ≡ n - 1) where
+  -- a mark and a worth written there are the notes with n noted
+  pub noted_by_writes : (v : W) → w ≡ v → notes_of blank M (set marks i true) (set worths i w) ≡ noted (notes_of blank M marks worths) n v
+  noted_by_writes v e =
+      let h = entries_there M marks worths n there in
+      let a : marks_of M (set marks i true) ≡ upd (marks_of M marks) n true = ap (λ j. marks_of M (set marks j true)) at ∙ mark_set M marks n h.0 h.1 h.2 in
+      let b : nth blank (set worths i w) ≡ upd (nth blank worths) n w = ap (λ j. nth blank (set worths j w)) at ∙ nth_set blank worths n w h.0 (omega arith) in
+      cc
 
--- a write at n - 1 leaves the other entries
-pub entry_beside : {A : Type 0} (blank : A) (l after : List A) (n m : ℕ) (v : A) → after ≡ set l (n - 1) v → 1 ≤ n → n ≤ length l → (m ≡ n → ⊥) → nth blank after m ≡ nth blank l m
-entry_beside blank l after n m v e low high other = ap (λ x. nth blank x m) e ∙ ap (λ f. f m) (nth_set blank l n v low high) ∙ upd_other (nth blank l) n m v other
+  -- and leave the other entries
+  pub entries_beside : (m : ℕ) → (m ≡ n → ⊥) → (nth false (set marks i true) m ≡ nth false marks m) × (nth blank (set worths i w) m ≡ nth blank worths m)
+  entries_beside m other =
+      let h = entries_there M marks worths n there in
+      (beside false marks true h.0 (omega arith) m other, beside blank worths w h.0 (omega arith) m other)
+    where
+      beside : {A : Type 0} (none : A) (l : List A) (v : A) → 1 ≤ n → n ≤ length l → (m : ℕ) → (m ≡ n → ⊥) → nth none (set l i v) m ≡ nth none l m
+      beside none l v low high m other = ap (λ j. nth none (set l j v) m) at ∙ ap (λ f. f m) (nth_set none l n v low high) ∙ upd_other (nth none l) n m v other

@@ -1,9 +1,10 @@
 -- A walk's notes as they stand in its caller's two lists.
-use Rattle.std.specs.Prelude.{ℕ, Bool, false, ◌&&◌, List, [], length, nat_le}
-use Rattle.kinds.specs.declared.gearbox.Situation.{Situation}
-use Rattle.model.specs.declared.nodes.Kids.{Kids}
+use Rattle.std.specs.Prelude.{◌≡◌, ℕ, Bool, false, ◌&&◌, List, [], length, nat_le}
 use Rattle.model.specs.Entries.{nth}
 use Rattle.model.specs.Steps.{between}
+use Rattle.model.specs.declared.words.NodeRead.{NodeRead}
+use Rattle.walks.specs.declared.notes.Notes.{Notes as Lent}
+use Rattle.model.specs.Types.{Situation}
 use Rattle.model.specs.Walks.{Notes, kid_worth}
 
 -- the marks of the nodes 1 to M on a list; what stands beyond is not looked at
@@ -26,5 +27,9 @@ abbrev pub has_entries : {W : Type 0} → ℕ → List Bool → List W → ℕ �
 has_entries M marks worths n = between 1 M n && (nat_le M (length marks) && nat_le M (length worths))
 
 -- the worth of a node from the worths that are noted of its kids
-abbrev pub worked_out : {D W : Type 0} → (D → Situation → W → W → W → W) → W → Notes W → D → Situation → Kids → W
-worked_out worth blank notes d t ks = worth d t (kid_worth notes blank ks.first) (kid_worth notes blank ks.second) (kid_worth notes blank ks.third)
+abbrev pub worked_out : {D W : Type 0} → (D → Situation → W → W → W → W) → W → Notes W → NodeRead D → W
+worked_out worth blank notes read = worth read.given read.situation (kid_worth notes blank read.kids.first) (kid_worth notes blank read.kids.second) (kid_worth notes blank read.kids.third)
+
+-- still the two lists that were lent, each as long as before
+abbrev pub SameLists : {W : Type 0} → Lent W → Lent W → Type 0
+SameLists old new = (new.marks.ghost_name ≡ old.marks.ghost_name) × (new.worths.ghost_name ≡ old.worths.ghost_name) × (length new.marks.now ≡ length old.marks.now) × (length new.worths.now ≡ length old.worths.now)

@@ -2,4 +2,5 @@
 #![tactic(auto)]
 
 pub mod marks;
+pub mod notes;
 pub mod worths;

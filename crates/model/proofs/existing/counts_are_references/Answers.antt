@@ -1,6 +1,6 @@
-use Rattle.model.specs.Setting.{setting_of}
+use Rattle.model.specs.Setting.{setting_for}
 use Rattle.model.proofs.Kept.{counts_are_references}
 use Rattle.model.proofs.existing.counts_are_references.Goals as goal
 
 pub returns : goal.returns
-returns g c N M = counts_are_references (setting_of g.K.Kind.suits g.K.Kind.worth g.K.Kind.none g.U.Order.numbers g.U.Order.horizon g.U.Order.due g.V.Order.numbers g.V.Order.horizon g.V.Order.due N M)
+returns g c N M = counts_are_references (setting_for g.K.Kind g.U.Order g.V.Order N M)

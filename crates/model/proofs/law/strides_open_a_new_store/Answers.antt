@@ -6,7 +6,7 @@ use Rattle.model.proofs.law.strides_open_a_new_store.Goals as goal
 
 pub returns : goal.returns
 returns g c nodes parties few info notes s asked n =
-    new_is_opened (stride_setting g.K.Kind.suits g.K.Kind.worth g.K.Kind.none nodes parties)
+    new_is_opened (stride_setting g.K.Kind nodes parties)
     (record { store = new_store; info = info; notes = notes; node_order = nodes; party_order = parties }) s asked
     (record {
       limits = record { some_party = parties.round.some.0; few_parties = few; some_node = nodes.round.some.0; few_nodes = nodes.round.some.1 };

@@ -1,18 +1,9 @@
-use Rattle.std.proofs.Common.{◌≡◌, ℕ, length, replicate, ap, ◌∙◌}
-use Rattle.std.proofs.lemmas.List.{length-replicate}
-use Rattle.cells.specs.View.{new_words, new_record}
+use Rattle.std.proofs.Common.{arith}
 use Rattle.cells.proofs.Fresh.{new_view}
 use Rattle.cells.proofs.records.Cells.new.Goals as goal
 
-pub returns : goal.returns
-returns g c =
-    let a = c.in_ok-nodes.nodes in
-    let b = c.in_ok-records.records in
-    let m : ℕ = c.args.nodes in
-    let n : ℕ = c.args.parties in
-    let ea : a.items ≡ replicate m new_words = c.in_ok-nodes.ensures in
-    let eb : b.items ≡ replicate n new_record = c.in_ok-records.ensures in
-    record {
-      view = new_view m n a.items b.items ea eb;
-      sizes = (a.ok.0 ∙ ap length ea ∙ length-replicate m new_words, b.ok.0 ∙ ap length eb ∙ length-replicate n (new_record {D = g.row.D.Denot}));
-    }
+pub returns-clause-view : goal.returns-clause-view
+returns-clause-view g c =
+    let nodes = c.in_ok-nodes.ensures.items_if_clones_equal (λ y h. h) in
+    let records = c.in_ok-records.ensures.items_if_clones_equal (λ y h. let k = rw c.new-2.ensures at h in rw c.new-2.ensures (grind arith)) in
+    new_view _ _ c.in_ok-nodes.nodes.items c.in_ok-records.records.items (rw c.new.ensures at nodes) (rw c.new-2.ensures at records)

@@ -1,115 +1,53 @@
-use Rattle.std.proofs.Common.{◌-◌, length, set, refl}
-use Rattle.model.specs.declared.words.Address.TheVariants.{CountOf, LockOf, KidOf, DataOf, InboxOf, TrayOf}
-use Rattle.model.specs.declared.words.Word.TheVariants.{CountWord, LockWord, KidWord, DataWord, InboxWord, TrayWord}
-use Rattle.model.specs.Entries.{nth}
-use Rattle.model.proofs.Entries.{nth_set}
-use Rattle.cells.specs.View.{view_of, parties_of, nodes_of}
-use Rattle.cells.proofs.Puts.{entry_stands, written_at, data_at_lem, untouched_at, no_count_word, no_lock_word, no_kid_word, no_inbox_word, no_tray_word}
+use Rattle.model.specs.State.{set_inbox, set_tray}
+use Rattle.model.specs.Steps.{between}
+use Rattle.cells.specs.View.{view_of, parties_of}
+use Rattle.cells.proofs.Puts.{untouched, no_count_word, no_lock_word, no_kid_word, no_inbox_word, no_tray_word}
+use Rattle.cells.proofs.Views.{made_so, count_put, lock_put, kid_put}
 use Rattle.cells.proofs.records.Cells.put.Goals as goal
 
-pub returns-in-CountWord : goal.returns-in-CountWord
-returns-in-CountWord g c =
-    let a = c.args.address in
-    let w = c.args.word in
-    let e = c.in-CountOf.is in
-    let f = c.in-CountWord.is in
-    let info = c.args.data.now in
-    record {
-      view = written_at (view_of c.args.self.now) (view_of c.set_count.new.self) a (CountOf c.in-CountOf.n) w (CountWord c.in-CountWord.v) e f c.set_count.ensures.view;
-      entries = λ d. data_at_lem (nth d info) (nth d info) a (CountOf c.in-CountOf.n) w (CountWord c.in-CountWord.v) e f refl;
-      sizes = c.set_count.ensures.sizes;
-    }
+pub returns-in-CountWord-clause-becomes : goal.returns-in-CountWord-clause-becomes
+returns-in-CountWord-clause-becomes g c =
+    rw (c.in-CountOf.is, c.in-CountWord.is)
+    (count_put c.args.self.now c.in-CountOf.n (rw c.in-CountOf.is at c.requires) c.index_mut.result.now c.index_mut.ensures.value c.in-CountWord.v)
+
+pub returns-in-LockWord-clause-becomes : goal.returns-in-LockWord-clause-becomes
+returns-in-LockWord-clause-becomes g c =
+    rw (c.in-LockOf.is, c.in-LockWord.is)
+    (lock_put c.args.self.now c.in-LockOf.n (rw c.in-LockOf.is at c.requires) c.index_mut-in-LockWord.result.now c.index_mut-in-LockWord.ensures.value c.in-LockWord.v)
+
+pub returns-in-KidWord-clause-becomes : goal.returns-in-KidWord-clause-becomes
+returns-in-KidWord-clause-becomes g c =
+    rw (c.in-KidOf.is, c.in-KidWord.is)
+    (kid_put c.args.self.now c.in-KidOf.n (rw c.in-KidOf.is at c.requires) c.index_mut-in-KidWord.result.now c.index_mut-in-KidWord.ensures.value c.in-KidOf.k c.in-KidWord.v c.put.new.self c.put.ensures)
+
+pub returns-in-InboxWord-clause-becomes : goal.returns-in-InboxWord-clause-becomes
+returns-in-InboxWord-clause-becomes g c =
+    let s = c.args.self.now in
+    let q = c.in-InboxOf.q in
+    rw (c.in-InboxOf.is, c.in-InboxWord.is)
+    (made_so s (between 1 (parties_of s) q) c.set_inbox.new.self (set_inbox (view_of s) q c.in-InboxWord.v) (view_of s) (rw c.in-InboxOf.is at c.requires) c.set_inbox.ensures)
+
+pub returns-in-TrayWord-clause-becomes : goal.returns-in-TrayWord-clause-becomes
+returns-in-TrayWord-clause-becomes g c =
+    let s = c.args.self.now in
+    let q = c.in-TrayOf.q in
+    rw (c.in-TrayOf.is, c.in-TrayWord.is)
+    (made_so s (between 1 (parties_of s) q) c.set_tray.new.self (set_tray (view_of s) q c.in-TrayWord.v) (view_of s) (rw c.in-TrayOf.is at c.requires) c.set_tray.ensures)
 
 pub returns-in_default : goal.returns-in_default
-returns-in_default g c =
-    let u = untouched_at c.args.address (CountOf c.in-CountOf.n) c.args.word c.in-CountOf.is (no_count_word c.in-CountOf.n c.args.word c.in_default.not-CountWord) in
-    record { view = u.store (view_of c.args.self.now); entries = λ d. u.entries (nth d c.args.data.now); sizes = record { parties = refl; nodes = refl } }
-
-pub returns-in-LockWord : goal.returns-in-LockWord
-returns-in-LockWord g c =
-    let a = c.args.address in
-    let w = c.args.word in
-    let e = c.in-LockOf.is in
-    let f = c.in-LockWord.is in
-    let info = c.args.data.now in
-    record {
-      view = written_at (view_of c.args.self.now) (view_of c.set_lock.new.self) a (LockOf c.in-LockOf.n) w (LockWord c.in-LockWord.v) e f c.set_lock.ensures.view;
-      entries = λ d. data_at_lem (nth d info) (nth d info) a (LockOf c.in-LockOf.n) w (LockWord c.in-LockWord.v) e f refl;
-      sizes = c.set_lock.ensures.sizes;
-    }
+returns-in_default g c = rw c.in-CountOf.is (untouched c.args.self.now c.args.data.now (no_count_word c.in-CountOf.n c.args.word c.in_default.not-CountWord))
 
 pub returns-in_default-word : goal.returns-in_default-word
-returns-in_default-word g c =
-    let u = untouched_at c.args.address (LockOf c.in-LockOf.n) c.args.word c.in-LockOf.is (no_lock_word c.in-LockOf.n c.args.word c.in_default-word.not-LockWord) in
-    record { view = u.store (view_of c.args.self.now); entries = λ d. u.entries (nth d c.args.data.now); sizes = record { parties = refl; nodes = refl } }
-
-pub returns-in-KidWord : goal.returns-in-KidWord
-returns-in-KidWord g c =
-    let a = c.args.address in
-    let w = c.args.word in
-    let e = c.in-KidOf.is in
-    let f = c.in-KidWord.is in
-    let info = c.args.data.now in
-    record {
-      view = written_at (view_of c.args.self.now) (view_of c.set_kid.new.self) a (KidOf c.in-KidOf.n c.in-KidOf.k) w (KidWord c.in-KidWord.v) e f c.set_kid.ensures.view;
-      entries = λ d. data_at_lem (nth d info) (nth d info) a (KidOf c.in-KidOf.n c.in-KidOf.k) w (KidWord c.in-KidWord.v) e f refl;
-      sizes = c.set_kid.ensures.sizes;
-    }
+returns-in_default-word g c = rw c.in-LockOf.is (untouched c.args.self.now c.args.data.now (no_lock_word c.in-LockOf.n c.args.word c.in_default-word.not-LockWord))
 
 pub returns-in_default-word-2 : goal.returns-in_default-word-2
 returns-in_default-word-2 g c =
-    let u = untouched_at c.args.address (KidOf c.in-KidOf.n c.in-KidOf.k) c.args.word c.in-KidOf.is (no_kid_word c.in-KidOf.n c.in-KidOf.k c.args.word c.in_default-word-2.not-KidWord) in
-    record { view = u.store (view_of c.args.self.now); entries = λ d. u.entries (nth d c.args.data.now); sizes = record { parties = refl; nodes = refl } }
-
-pub returns-in-InboxWord : goal.returns-in-InboxWord
-returns-in-InboxWord g c =
-    let a = c.args.address in
-    let w = c.args.word in
-    let e = c.in-InboxOf.is in
-    let f = c.in-InboxWord.is in
-    let info = c.args.data.now in
-    record {
-      view = written_at (view_of c.args.self.now) (view_of c.set_inbox.new.self) a (InboxOf c.in-InboxOf.q) w (InboxWord c.in-InboxWord.v) e f c.set_inbox.ensures.view;
-      entries = λ d. data_at_lem (nth d info) (nth d info) a (InboxOf c.in-InboxOf.q) w (InboxWord c.in-InboxWord.v) e f refl;
-      sizes = c.set_inbox.ensures.sizes;
-    }
+    rw c.in-KidOf.is (untouched c.args.self.now c.args.data.now (no_kid_word c.in-KidOf.n c.in-KidOf.k c.args.word c.in_default-word-2.not-KidWord))
 
 pub returns-in_default-word-4 : goal.returns-in_default-word-4
 returns-in_default-word-4 g c =
-    let u = untouched_at c.args.address (InboxOf c.in-InboxOf.q) c.args.word c.in-InboxOf.is (no_inbox_word c.in-InboxOf.q c.args.word c.in_default-word-4.not-InboxWord) in
-    record { view = u.store (view_of c.args.self.now); entries = λ d. u.entries (nth d c.args.data.now); sizes = record { parties = refl; nodes = refl } }
-
-pub returns-in-TrayWord : goal.returns-in-TrayWord
-returns-in-TrayWord g c =
-    let a = c.args.address in
-    let w = c.args.word in
-    let e = c.in-TrayOf.is in
-    let f = c.in-TrayWord.is in
-    let info = c.args.data.now in
-    record {
-      view = written_at (view_of c.args.self.now) (view_of c.set_tray.new.self) a (TrayOf c.in-TrayOf.q) w (TrayWord c.in-TrayWord.v) e f c.set_tray.ensures.view;
-      entries = λ d. data_at_lem (nth d info) (nth d info) a (TrayOf c.in-TrayOf.q) w (TrayWord c.in-TrayWord.v) e f refl;
-      sizes = c.set_tray.ensures.sizes;
-    }
+    rw c.in-InboxOf.is (untouched c.args.self.now c.args.data.now (no_inbox_word c.in-InboxOf.q c.args.word c.in_default-word-4.not-InboxWord))
 
 pub returns-in_default-word-5 : goal.returns-in_default-word-5
 returns-in_default-word-5 g c =
-    let u = untouched_at c.args.address (TrayOf c.in-TrayOf.q) c.args.word c.in-TrayOf.is (no_tray_word c.in-TrayOf.q c.args.word c.in_default-word-5.not-TrayWord) in
-    record { view = u.store (view_of c.args.self.now); entries = λ d. u.entries (nth d c.args.data.now); sizes = record { parties = refl; nodes = refl } }
-
-pub returns-in-DataWord : goal.returns-in-DataWord
-returns-in-DataWord g c =
-    let s = c.args.self.now in
-    let a = c.args.address in
-    let w = c.args.word in
-    let n = c.in-DataOf.n in
-    let v = c.in-DataWord.v in
-    let e = c.in-DataOf.is in
-    let f = c.in-DataWord.is in
-    let info = c.args.data.now in
-    let h = entry_stands (parties_of s) (nodes_of s) (length info) n a e c.requires in
-    record {
-      view = written_at (view_of s) (view_of s) a (DataOf n) w (DataWord v) e f refl;
-      entries = λ d. data_at_lem (nth d info) (nth d (set info (n - 1) v)) a (DataOf n) w (DataWord v) e f (nth_set d info n v h.0 h.1);
-      sizes = record { parties = refl; nodes = refl };
-    }
+    rw c.in-TrayOf.is (untouched c.args.self.now c.args.data.now (no_tray_word c.in-TrayOf.q c.args.word c.in_default-word-5.not-TrayWord))

@@ -1,36 +1,14 @@
-use Rattle.std.proofs.Common.{◌≡◌, ℕ, ◌≤◌, true, [], length, sym, refl, ap, ◌∙◌, arith}
-use Rattle.std.proofs.lemmas.Bool.{cond-true}
+use Rattle.std.proofs.Common.{[]}
 use Rattle.model.specs.Entries.{nth}
+use Rattle.model.specs.State.{along}
 use Rattle.model.specs.declared.running.Reading.TheVariants.{ReadNothing}
 use Rattle.model.specs.declared.running.Running.TheVariants.{WalkReads}
-use Rattle.model.specs.Begins.{started_walk}
-use Rattle.model.specs.State.{along}
-use Rattle.model.specs.Steps.{between}
-use Rattle.model.proofs.Stepped.{is_within}
-use Rattle.cells.specs.declared.records.PartyRecord.{PartyRecord}
-use Rattle.cells.specs.View.{view_of, parties_of, new_record}
-use Rattle.cells.proofs.Views.{entry_is, own_put}
+use Rattle.cells.proofs.Begun.{walks}
 use Rattle.cells.proofs.records.Cells.start_walk.Goals as goal
 
-pub returns : goal.returns
-returns g c =
-    let s = c.args.self.now in
-    let l = s.table.records.items in
-    let p : ℕ = c.args.party in
-    let y = c.lend-record.result.now in
-    let n : s.table.records.len ≡ length l = s.table.records.ok.0 in
-    let len : c.len.result ≡ s.table.records.len = c.len.ensures in
-    let lo : 1 ≤ p = omega arith in
-    let hi : p ≤ length l = omega arith in
-    let own : y ≡ nth new_record l p = entry_is new_record l p y lo hi c.lend-record.ensures.value in
-    let is : between 1 (parties_of s) p ≡ true = is_within (parties_of s) p lo (omega arith) in
-    let i : ℕ = c.args.slot in
-    let t = c.args.situation in
-    let x : PartyRecord g.row.D.Denot = record { slots = y.slots; inbox = y.inbox; tray = y.tray; trail = c.enter.new.trail; running = WalkReads t ReadNothing } in
-    record {
-      told = sym is;
-      view = own_put s.nodes.items l p x y lo hi own refl refl (along i ((view_of s).slot p i) []) (WalkReads t ReadNothing) refl
-          (c.enter.ensures ∙ ap (λ v. along i v []) (c.node_of-node.ensures ∙ ap (λ z. nth 0 z.slots i) own)) refl
-          ∙ sym (cond-true (between 1 (parties_of s) p) (started_walk i t (view_of s) p) (view_of s) is);
-      sizes = record { parties = refl; nodes = refl };
-    }
+pub returns-clause-becomes : goal.returns-clause-becomes
+returns-clause-becomes g c =
+    let h = c.in-Some.ensures.value in
+    let i = c.args.slot in
+    walks c.args.self.now c.args.party h.0 c.in-Some.record.now c.begin_walk.new.own h.1
+    (λ z. along i (nth 0 z.slots i) []) (λ z. WalkReads c.args.situation ReadNothing) c.begin_walk.ensures

@@ -6,15 +6,15 @@ use Rattle.store.proofs.store.Store.open.Goals as goal
 
 pub invariant_of-result : goal.invariant_of-result
 invariant_of-result g c =
-    let cells = c.in-Ok.cells in
-    let e = c.in-Ok.ensures in
+    let cells = c.in_ok-cells.cells in
+    let e = c.in_ok-cells.ensures in
     let N : ℕ = parties_of cells in
     let M : ℕ = nodes_of cells in
-    let n : N ≡ c.args.parties = e.sizes.1 in
-    let m : M ≡ c.args.nodes = e.sizes.0 in
-    let l = c.if-not-in_limits.ensures in
+    let n : N ≡ c.in_ok-sizes.sizes.parties = e.sizes.1 in
+    let m : M ≡ c.in_ok-sizes.sizes.nodes = e.sizes.0 in
+    let l = c.in_ok-sizes.ensures in
     record {
-      parties = (omega arith, omega arith);
-      nodes = (omega arith, omega arith);
+      parties = (let a = l.0.some_party in let b = l.2 in omega arith, let a = l.0.few_parties in let b = l.2 in omega arith);
+      nodes = (let a = l.0.some_node in let b = l.1 in omega arith, let a = l.0.few_nodes in let b = l.1 in omega arith);
       sound = ∣ subst (Sound N M) (sym e.view) (new_sound g.row.K-Data.Denot N M) ∣₁;
     }

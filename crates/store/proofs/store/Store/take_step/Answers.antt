@@ -1,84 +1,51 @@
-use Rattle.std.proofs.Common.{◌≡◌, ℕ, ◌≤◌, length, subst, arith}
+use Rattle.std.proofs.Common.{ℕ, length, subst}
 use Rattle.orders.specs.Limits.{last_party, largest_size}
 use Rattle.model.specs.Entries.{nth}
 use Rattle.model.specs.Runs.{Asks, asks_nodes, asks_parties}
+use Rattle.model.specs.Setting.{meaning_of}
 use Rattle.cells.specs.View.{view_of, parties_of, nodes_of}
-use Rattle.store.specs.Given.{meaning_of, zero_data}
-use Rattle.store.proofs.Accepted.{sound_sized, store_after, info_after, told_is, never_none, sound_after}
+use Rattle.store.specs.Given.{zero_data}
+use Rattle.store.proofs.Accepted.{within_still, sound_sized, is_taken, some_told}
 use Rattle.store.proofs.store.Store.take_step.Goals as goal
 
 pub invariant_of-self : goal.invariant_of-self
 invariant_of-self g c =
     let s = c.args.self.now in
-    let cells = s.cells in
-    let W = g.row.K-Worth.Denot in
     let zero = zero_data g.K.Kind in
-    let info = nth zero c.args.data.now in
-    let entries : ℕ = length c.args.data.now in
-    let N : ℕ = parties_of cells in
-    let M : ℕ = nodes_of cells in
-    let p : ℕ = c.args.party in
-    let x : ℕ = c.pick-number.result in
+    let h = is_taken g.row.K-Worth.Denot (parties_of s.cells) (nodes_of s.cells) (view_of s.cells) s.sound s.parties.1 s.nodes.1 c.args.party c.requires.party c.requires.runs
+    (length c.args.data.now) c.requires.entries (nth zero c.args.data.now) c.pick-number.result (view_of c.step.new.self) (nth zero c.step.new.data) c.step.result (c.step.ensures.steps zero) in
     let after = c.step.new.self in
-    let later = nth zero c.step.new.data in
-    let lo : 1 ≤ p = c.requires.party.0 in
-    let hi : p ≤ N = c.requires.party.1 in
-    let h = c.step.ensures.steps zero in
-    let n : parties_of after ≡ N = c.step.ensures.sizes.parties in
-    let m : nodes_of after ≡ M = c.step.ensures.sizes.nodes in
-    let a : (1 ≤ N) × (N ≤ last_party) = s.parties in
-    let b : (1 ≤ M) × (M ≤ largest_size) = s.nodes in
+    let z = c.step.ensures.sizes in
     record {
-      parties = (omega arith, omega arith);
-      nodes = (omega arith, omega arith);
-      sound = sound_sized N (parties_of after) M (nodes_of after) (view_of after) n m (sound_after W N M (view_of cells) s.sound p lo hi s.parties.1 s.nodes.1 entries c.requires.entries c.requires.runs info x (view_of after) later c.step.result h);
+      parties = within_still 1 last_party (parties_of s.cells) (parties_of after) s.parties z.parties;
+      nodes = within_still 1 largest_size (nodes_of s.cells) (nodes_of after) s.nodes z.nodes;
+      sound = sound_sized (parties_of s.cells) (parties_of after) (nodes_of s.cells) (nodes_of after) (view_of after) z.parties z.nodes h.sound;
     }
 
-pub unreachable-requires : goal.unreachable-requires
-unreachable-requires g c =
+pub unwrap-requires : goal.unwrap-requires
+unwrap-requires g c =
     let s = c.args.self.now in
-    let cells = s.cells in
-    let W = g.row.K-Worth.Denot in
     let zero = zero_data g.K.Kind in
-    let info = nth zero c.args.data.now in
-    let entries : ℕ = length c.args.data.now in
-    let N : ℕ = parties_of cells in
-    let M : ℕ = nodes_of cells in
-    let p : ℕ = c.args.party in
-    let x : ℕ = c.pick-number.result in
-    let after = c.step.new.self in
-    let later = nth zero c.step.new.data in
-    let lo : 1 ≤ p = c.requires.party.0 in
-    let hi : p ≤ N = c.requires.party.1 in
-    let h = c.step.ensures.steps zero in
-    never_none W N M (view_of cells) s.sound p lo hi s.parties.1 s.nodes.1 entries c.requires.entries c.requires.runs info x (view_of after) later c.step.result h c.in-None.is
+    let h = is_taken g.row.K-Worth.Denot (parties_of s.cells) (nodes_of s.cells) (view_of s.cells) s.sound s.parties.1 s.nodes.1 c.args.party c.requires.party c.requires.runs
+    (length c.args.data.now) c.requires.entries (nth zero c.args.data.now) c.pick-number.result (view_of c.step.new.self) (nth zero c.step.new.data) c.step.result (c.step.ensures.steps zero) in
+    some_told c.step.result _ h.told
 
 pub returns : goal.returns
 returns g c =
     let s = c.args.self.now in
-    let cells = s.cells in
-    let W = g.row.K-Worth.Denot in
     let zero = zero_data g.K.Kind in
-    let info = nth zero c.args.data.now in
-    let entries : ℕ = length c.args.data.now in
-    let N : ℕ = parties_of cells in
-    let M : ℕ = nodes_of cells in
-    let p : ℕ = c.args.party in
+    let h = is_taken g.row.K-Worth.Denot (parties_of s.cells) (nodes_of s.cells) (view_of s.cells) s.sound s.parties.1 s.nodes.1 c.args.party c.requires.party c.requires.runs
+    (length c.args.data.now) c.requires.entries (nth zero c.args.data.now) c.pick-number.result (view_of c.step.new.self) (nth zero c.step.new.data) c.step.result (c.step.ensures.steps zero) in
     let x : ℕ = c.pick-number.result in
-    let after = c.step.new.self in
-    let later = nth zero c.step.new.data in
-    let lo : 1 ≤ p = c.requires.party.0 in
-    let hi : p ≤ N = c.requires.party.1 in
-    let h = c.step.ensures.steps zero in
     let runs = c.running-running.ensures in
     record {
       taken = λ notes. record {
         pick = x;
-        store_is = store_after W N M (view_of cells) s.sound p lo hi s.parties.1 s.nodes.1 entries c.requires.entries c.requires.runs info x (view_of after) later c.step.result h;
-        info_is = info_after W N M (view_of cells) s.sound p lo hi s.parties.1 s.nodes.1 entries c.requires.entries c.requires.runs info x (view_of after) later c.step.result h;
-        node_picks = subst (λ r. Asks (meaning_of g.U.Order) (asks_nodes r) s.node_order c.pick-number.new.node_order p x) runs c.pick-number.ensures.nodes;
-        party_picks = subst (λ r. Asks (meaning_of g.V.Order) (asks_parties r) s.party_order c.pick-number.new.party_order p x) runs c.pick-number.ensures.parties;
-        told = told_is W N M (view_of cells) s.sound p lo hi s.parties.1 s.nodes.1 entries c.requires.entries c.requires.runs info x (view_of after) later c.step.result h c.in-Some.told c.in-Some.is;
+        store_is = h.store_is;
+        info_is = h.info_is;
+        node_picks = subst (λ r. Asks (meaning_of g.U.Order) (asks_nodes r) s.node_order c.pick-number.new.node_order c.args.party x) runs c.pick-number.ensures.nodes;
+        party_picks = subst (λ r. Asks (meaning_of g.V.Order) (asks_parties r) s.party_order c.pick-number.new.party_order c.args.party x) runs c.pick-number.ensures.parties;
+        told = let f = h.told in let u = c.unwrap.ensures in cc;
       };
       sizes = c.step.ensures.sizes;
     }

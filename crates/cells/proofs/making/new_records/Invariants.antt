@@ -1,6 +1,0 @@
-use Rattle.std.proofs.Common.{◌≡◌, replicate, vec_items}
-use Rattle.cells.specs.View.{new_record}
-use Rattle.cells.proofs.making.new_records.Given as goal
-
-abbrev pub invariant-loop-i : goal.invariant-loop-i
-invariant-loop-i g l = vec_items l.all ≡ replicate l.i new_record
