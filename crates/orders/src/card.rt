@@ -46,11 +46,11 @@ impl Order for Card {
 
     ghost due = { λ s p n. round_due (entry_at s.entries.items) s.round.size 1 (place_of s.round.places p) n };
 
-    ghost at_least_one = { λ o. o.round.some.0 };
+    ghost at_least_one = { λ o. o.round.size_fits.low };
 
     ghost due_below_span = { λ o p n is number.
         card_dues_below o.round.size o.entries.items o.fits
-        o.round.some.0 (place_of o.round.places p) n (o.round.placed p is) number };
+        o.round.size_fits.low (place_of o.round.places p) n (o.round.placed p is) number };
 
     fn size(&self) -> Number {
         self.round.size

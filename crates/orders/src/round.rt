@@ -1,5 +1,5 @@
 ghost use Rattle.std.specs.Prelude.{◌≡◌, ℕ, ◌+◌, ◌-◌, ◌%◌, ◌<◌, ◌≤◌, slice_set, MatchResult, MatchOption, IfSome};
-ghost use Rattle.orders.specs.Limits.{IsParty, largest_size};
+ghost use Rattle.orders.specs.Limits.{IsParty};
 ghost use Rattle.orders.specs.Meaning.{IsNumber};
 ghost use Rattle.orders.specs.Making.{AtStart, SizeFits};
 ghost use Rattle.refusals.specs.declared.Refusal.TheVariants.{OutsideLimits};
@@ -13,7 +13,7 @@ use refusals::Refusal;
 pub(crate) struct Round {
     pub(crate) size: Number,
     pub(crate) places: [Number; PARTIES],
-    ghost some: { (1 ≤ size) × (size ≤ largest_size) },
+    ghost size_fits: { SizeFits size },
     ghost placed: { (p : ℕ) → IsParty p → IsNumber size (place_of places p) },
 }
 

@@ -1,5 +1,5 @@
 ghost use Rattle.std.specs.Prelude.{◌≡◌, ◌+◌, ◌-◌, ◌%◌, ◌<◌, ◌≤◌, MatchBool, MatchResult, slice_set, refl};
-ghost use Rattle.orders.specs.Limits.{IsParty, longest_stride};
+ghost use Rattle.orders.specs.Limits.{IsParty};
 ghost use Rattle.orders.specs.Making.{StrideFits, NoSharedFactor, RefusedBy, Made};
 ghost use Rattle.orders.specs.Rounds.{next_place, place_of, round_due};
 ghost use Rattle.orders.specs.RoundsLemmas.{dues_below};
@@ -14,8 +14,7 @@ use refusals::Refusal;
 pub struct Stride {
     round: Round,
     stride: u32,
-    ghost positive: { (1 ≤ stride) × (stride ≤ longest_stride) },
-    ghost apart: { NoSharedFactor stride round.size },
+    ghost fits: { StrideFits round.size stride },
 }
 
 impl Stride {
@@ -39,10 +38,10 @@ impl Order for Stride {
 
     ghost due = { λ s p n. round_due (λ q. q) s.round.size s.stride (place_of s.round.places p) n };
 
-    ghost at_least_one = { λ o. o.round.some.0 };
+    ghost at_least_one = { λ o. o.round.size_fits.low };
 
     ghost due_below_span = { λ o p n is number.
-        dues_below (λ q. q) o.round.size o.stride o.round.some.0 o.positive.0 o.apart
+        dues_below (λ q. q) o.round.size o.stride o.round.size_fits.low o.fits.low o.fits.apart
         (λ i h. (i, h, refl)) (λ i h. h) (place_of o.round.places p) n (o.round.placed p is) number };
 
     fn size(&self) -> Number {

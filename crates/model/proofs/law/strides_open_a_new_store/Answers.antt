@@ -9,7 +9,7 @@ returns g c nodes parties few info notes s asked n =
     new_is_opened (stride_setting g.K.Kind nodes parties)
     (record { store = new_store; info = info; notes = notes; node_order = nodes; party_order = parties }) s asked
     (record {
-      limits = record { some_party = parties.round.some.0; few_parties = few; some_node = nodes.round.some.0; few_nodes = nodes.round.some.1 };
+      limits = record { some_party = parties.round.size_fits.low; few_parties = few; some_node = nodes.round.size_fits.low; few_nodes = nodes.round.size_fits.high };
       store_is = refl;
       sized = record { nodes = refl; parties = refl };
     })

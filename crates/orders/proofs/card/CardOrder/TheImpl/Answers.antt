@@ -12,7 +12,7 @@ pick-tells c =
     let new = c.new.self.now in
     let said = c.ensures in
     record {
-      picked = move_is_pick (entry_at (vec_items old.entries)) old.round.size 1 old.round.some.0 (omega arith) (none_shared_with_one old.round.size)
+      picked = move_is_pick (entry_at (vec_items old.entries)) old.round.size 1 old.round.size_fits.low (omega arith) (none_shared_with_one old.round.size)
           (number_stands old.round.size (vec_items old.entries) old.fits) (entry_is_number old.round.size (vec_items old.entries) old.fits)
           (own.ghosts).numbers (own.ghosts).horizon (own.ghosts).due old new c.args.party c.result old.round.places new.round.places
           old.round.placed refl said.same.0 said.same.0 (λ q n. refl)

@@ -10,7 +10,7 @@ pick-tells c =
     let new = c.new.self.now in
     let said = c.ensures in
     record {
-      picked = move_is_pick (λ q. q) old.round.size old.stride old.round.some.0 old.positive.0 old.apart
+      picked = move_is_pick (λ q. q) old.round.size old.stride old.round.size_fits.low old.fits.low old.fits.apart
           (λ i h. (i, h, refl)) (λ i h. h)
           (own.ghosts).numbers (own.ghosts).horizon (own.ghosts).due old new c.args.party c.result old.round.places new.round.places
           old.round.placed refl said.same.0 said.same.0 (λ q n. refl)
