@@ -1,5 +1,6 @@
 -- The codes of map data, each with its number, and how many kids each takes.
-use Rattle.std.specs.Prelude.{ℕ, Bool, true, false, cond, not, ◌&&◌, List, [], ◌∷◌, ◌++◌, replicate, Some, None, Option, ◌==◌, nat_le, slice_index}
+use Rattle.std.specs.Prelude.{ℕ, Bool, cond, ◌&&◌, List, [], ◌∷◌, ◌++◌, replicate, Some, None, Option, ◌==◌, nat_le, slice_index}
+use Rattle.std.specs.Bool.{beq}
 use Rattle.kinds.specs.declared.kids.PerKid.{PerKid}
 use Rattle.kinds.specs.declared.codes.Code.{Code}
 use Rattle.kinds.specs.declared.codes.Code.TheVariants.{Number, Range, Gear, Temperature, Negated, Sum, Difference, Smaller, Larger, Scaled, Choose, Held}
@@ -36,10 +37,6 @@ kids_table = replicate 8 0 ++ (replicate 8 1 ++ (replicate 8 2 ++ replicate 8 3)
 abbrev pub kids_taken : Code → ℕ
 kids_taken code = slice_index kids_table (code_number code)
 
-abbrev pub same : Bool → Bool → Bool
-same true b = b
-same false b = not b
-
 -- exactly the first n kids are given
 abbrev pub first_given : ℕ → PerKid Bool → Bool
-first_given n kids = same kids.first (nat_le 1 n) && (same kids.second (nat_le 2 n) && same kids.third (nat_le 3 n))
+first_given n kids = beq kids.first (nat_le 1 n) && (beq kids.second (nat_le 2 n) && beq kids.third (nat_le 3 n))

@@ -1,7 +1,7 @@
 -- What a program's reads and writes of a list do to its entries by number.
-use Rattle.std.proofs.Common.{◌≡◌, ℕ, zero, suc, ◌-◌, ◌<◌, ◌≤◌, ◌⊎◌, List, length, get_or, set, sym, refl, ap, ◌∙◌, inl, inr, arith}
+use Rattle.std.proofs.Common.{◌≡◌, ℕ, zero, suc, ◌-◌, ◌≤◌, List, length, get_or, set, sym, ap, ◌∙◌, inl, inr, arith}
 use mathlib.Core.Path.{fun_ext}
-use Rattle.std.proofs.lemmas.List.{get_or-set_same, get_or-set_other, get_or_past}
+use Rattle.std.proofs.lemmas.List.{get_or-set_same, get_or-set_other}
 use Rattle.std.proofs.lemmas.Bool.{cases_eq}
 use Rattle.model.specs.Fun.{upd}
 use Rattle.model.specs.Entries.{nth}
@@ -26,8 +26,3 @@ nth_set d l (suc n) v h k = fun_ext (λ m. go m)
 pub nth_read : {A : Type 0} (d : A) (l : List A) (n : ℕ) → 1 ≤ n → nth d l n ≡ get_or l (n - 1) d
 nth_read d l zero h = absurd (omega arith)
 nth_read d l (suc n) h = ap (λ i. get_or l i d) (let u : n ≡ suc n - 1 = omega arith in u)
-
--- at 0 and beyond the list there is none
-pub nth_none : {A : Type 0} (d : A) (l : List A) (n : ℕ) → (n < 1) ⊎ ((1 ≤ n) × (length l < n)) → d ≡ nth d l n
-nth_none d l zero h = refl
-nth_none d l (suc n) h = sym (get_or_past l n d (elim h [ inl z ↦ absurd (omega arith) | inr z ↦ omega arith ]))
