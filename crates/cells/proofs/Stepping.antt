@@ -19,8 +19,9 @@ cond_none : {A : Type 0} (b : Bool) (v : A) → cond b (Some v) None ≡ None �
 cond_none true v e = cc
 cond_none false v e = refl
 
--- the party p of the cells c has the record y; x is picked, and l is the caller's data
-module _ {D : Type 0} (W : Type 0) (c : Cells D) (l : List D) (p x : ℕ) (y : PartyRecord D) (own : y ≡ record_of c p) where
+-- the party p of the cells c has the record y; x is picked, l is the caller's data, and a is where the step looks
+module _ {D : Type 0} (W : Type 0) (c : Cells D) (l : List D) (p x : ℕ) {y : PartyRecord D} (own : y ≡ record_of c p) {z : Sizes} (ez : z ≡ record { parties = parties_of c; nodes = nodes_of c })
+    {a : Address} (ea : a ≡ address z.parties z.nodes y.running p x (nth 0 y.slots) (last_of (trail_of y.trail))) where
   abbrev N : ℕ
   N = parties_of c
 
@@ -33,10 +34,8 @@ module _ {D : Type 0} (W : Type 0) (c : Cells D) (l : List D) (p x : ℕ) (y : P
   abbrev here : Address
   here = looks_at N M s p x
 
-  -- where the step looks
-  pub looks : {a : Address} (z : Sizes) → z ≡ record { parties = N; nodes = M } → a ≡ address z.parties z.nodes y.running p x (nth 0 y.slots) (last_of (trail_of y.trail)) → a ≡ here
-  looks z ez e =
-      e ∙ ap (λ u. address u.parties u.nodes y.running p x (nth 0 y.slots) (last_of (trail_of y.trail))) ez
+  at : a ≡ here
+  at = ea ∙ ap (λ u. address u.parties u.nodes y.running p x (nth 0 y.slots) (last_of (trail_of y.trail))) ez
       ∙ ap (λ u. address N M u.running p x (nth 0 u.slots) (last_of (trail_of u.trail))) own
 
   module _ (blank : D) where
@@ -68,48 +67,47 @@ module _ {D : Type 0} (W : Type 0) (c : Cells D) (l : List D) (p x : ℕ) (y : P
       info_is = sym (cond-false is_ready (data_after N M s info p x d) info f);
     }
 
-    module _ (a : Address) (at : a ≡ here) where
-      pub no_word : false ≡ stands N M (length l) a → Waits
-      no_word e = waits (and_right (between 1 N p) (there && (moves && room)) (and_left there (moves && room) (ap (stands N M (length l)) (sym at) ∙ sym e)))
+    pub no_word : false ≡ stands N M (length l) a → Waits
+    no_word e = waits (and_right (between 1 N p) (there && (moves && room)) (and_left there (moves && room) (ap (stands N M (length l)) (sym at) ∙ sym e)))
 
-      -- w is the word there, and o what is decided on it
-      module _ (w : Word D) (word : w ≡ loaded s info a) (o : Option (Decision D W)) where
-        abbrev on : PartyRecord D → Decision D W
-        on z = decide {W = W} z.running w p x (nth 0 z.slots) (last_of (trail_of z.trail))
+    -- w is the word there, and o what is decided on it
+    module _ {w : Word D} (word : w ≡ loaded s info a) where
+      abbrev on : PartyRecord D → Decision D W
+      on z = decide {W = W} z.running w p x (nth 0 z.slots) (last_of (trail_of z.trail))
 
-        abbrev ruling : PartyRecord D → Option (Decision D W)
-        ruling z = cond (movable z.running w) (Some (on z)) None
+      abbrev ruling : PartyRecord D → Option (Decision D W)
+      ruling z = cond (movable z.running w) (Some (on z)) None
 
-        word_is : loaded s info here ≡ w
-        word_is = ap (loaded s info) (sym at) ∙ sym word
+      word_is : loaded s info here ≡ w
+      word_is = ap (loaded s info) (sym at) ∙ sym word
 
-        pub no_move : o ≡ ruling y → o ≡ None → Waits
-        no_move e n =
-            let h = cond_none (movable (s.run p) w) (on (record_of c p)) (sym (e ∙ ap ruling own) ∙ n) in
-            waits (and_right (between 1 N p) (there && (moves && room)) (and_right there (moves && room) (and_left moves room (ap (movable (s.run p)) word_is ∙ h))))
+      pub no_move : {o : Option (Decision D W)} → o ≡ ruling y → o ≡ None → Waits
+      no_move e n =
+          let h = cond_none (movable (s.run p) w) (on (record_of c p)) (sym (e ∙ ap ruling own) ∙ n) in
+          waits (and_right (between 1 N p) (there && (moves && room)) (and_right there (moves && room) (and_left moves room (ap (movable (s.run p)) word_is ∙ h))))
 
-        module _ (k : Decision D W) (e : o ≡ ruling y) (n : o ≡ Some k) where
-          ruled : (movable (s.run p) w ≡ true) × (on (record_of c p) ≡ k)
-          ruled = cond_some (movable (s.run p) w) (on (record_of c p)) k (sym (e ∙ ap ruling own) ∙ n)
+      module _ {o : Option (Decision D W)} {k : Decision D W} (e : o ≡ ruling y) (n : o ≡ Some k) where
+        ruled : (movable (s.run p) w ≡ true) × (on (record_of c p) ≡ k)
+        ruled = cond_some (movable (s.run p) w) (on (record_of c p)) k (sym (e ∙ ap ruling own) ∙ n)
 
-          decided : d ≡ k
-          decided = ap (λ v. decide (s.run p) v p x (s.slot p) (last s p)) word_is ∙ ruled.1
+        decided : d ≡ k
+        decided = ap (λ v. decide (s.run p) v p x (s.slot p) (last s p)) word_is ∙ ruled.1
 
-          room_is : (b : Bool) → b ≡ has_room (trail_of y.trail) k.change → room ≡ b
-          room_is b h = ap (λ z. has_room (s.trail p) z.change) decided ∙ ap (λ z. has_room (trail_of z.trail) k.change) (sym own) ∙ sym h
+        room_is : (b : Bool) → b ≡ has_room (trail_of y.trail) k.change → room ≡ b
+        room_is b h = ap (λ z. has_room (s.trail p) z.change) decided ∙ ap (λ z. has_room (trail_of z.trail) k.change) (sym own) ∙ sym h
 
-          pub no_room : false ≡ has_room (trail_of y.trail) k.change → Waits
-          no_room h = waits (and_right (between 1 N p) (there && (moves && room)) (and_right there (moves && room) (and_right moves room (room_is false h))))
+        pub no_room : false ≡ has_room (trail_of y.trail) k.change → Waits
+        no_room h = waits (and_right (between 1 N p) (there && (moves && room)) (and_right there (moves && room) (and_right moves room (room_is false h))))
 
-          -- t, u and later are the store after the word is written and after the step, and the data
-          pub steps : between 1 N p ≡ true → true ≡ stands N M (length l) a → true ≡ has_room (trail_of y.trail) k.change → (t u : Store D) (later : ℕ → D)
-              → t ≡ written s a k.word → later ≡ data_written info a k.word → u ≡ set_run (changed t p k.change) p k.next → StepsIfReady {W = W} N M (length l) s u info later p x (Some k.told)
-          steps party stand fits t u later et ei eu =
-              let r : is_ready ≡ true = and_from (between 1 N p) (there && (moves && room)) party (and_from there (moves && room) (ap (stands N M (length l)) (sym at) ∙ sym stand)
-              (and_from moves room (ap (movable (s.run p)) word_is ∙ ruled.0) (room_is true fits))) in
-              record {
-                told = ap (λ z. Some z.told) (sym decided) ∙ sym (cond-true is_ready (Some d.told) None r);
-                store_is = eu ∙ ap (λ z. set_run (changed z p k.change) p k.next) et ∙ ap (λ z. set_run (changed (written s z k.word) p k.change) p k.next) at
-                    ∙ ap (λ z. set_run (changed (written s here z.word) p z.change) p z.next) (sym decided) ∙ sym (cond-true is_ready (stepped N M s info p x d) s r);
-                info_is = ei ∙ ap (λ z. data_written info z k.word) at ∙ ap (λ z. data_written info here z.word) (sym decided) ∙ sym (cond-true is_ready (data_after N M s info p x d) info r);
-              }
+        -- t, u and later are the store after the word is written and after the step, and the data
+        pub steps : between 1 N p ≡ true → true ≡ stands N M (length l) a → true ≡ has_room (trail_of y.trail) k.change → {t u : Store D} {later : ℕ → D}
+            → t ≡ written s a k.word → later ≡ data_written info a k.word → u ≡ set_run (changed t p k.change) p k.next → StepsIfReady {W = W} N M (length l) s u info later p x (Some k.told)
+        steps party stand fits {t} {u} {later} et ei eu =
+            let r : is_ready ≡ true = and_from (between 1 N p) (there && (moves && room)) party (and_from there (moves && room) (ap (stands N M (length l)) (sym at) ∙ sym stand)
+            (and_from moves room (ap (movable (s.run p)) word_is ∙ ruled.0) (room_is true fits))) in
+            record {
+              told = ap (λ z. Some z.told) (sym decided) ∙ sym (cond-true is_ready (Some d.told) None r);
+              store_is = eu ∙ ap (λ z. set_run (changed z p k.change) p k.next) et ∙ ap (λ z. set_run (changed (written s z k.word) p k.change) p k.next) at
+                  ∙ ap (λ z. set_run (changed (written s here z.word) p z.change) p z.next) (sym decided) ∙ sym (cond-true is_ready (stepped N M s info p x d) s r);
+              info_is = ei ∙ ap (λ z. data_written info z k.word) at ∙ ap (λ z. data_written info here z.word) (sym decided) ∙ sym (cond-true is_ready (data_after N M s info p x d) info r);
+            }

@@ -1,5 +1,5 @@
 -- What a change of one node's words or of one party's record does to the view.
-use Rattle.std.proofs.Common.{◌≡◌, ℕ, ◌-◌, ◌≤◌, Bool, true, false, cond, eqb, List, length, get_or, sym, refl, ap, ◌∙◌, subst, inl, inr, arith}
+use Rattle.std.proofs.Common.{◌≡◌, ℕ, ◌-◌, ◌≤◌, Bool, true, cond, eqb, List, length, get_or, sym, refl, ap, ◌∙◌, subst, inl, inr, arith}
 use mathlib.Core.Path.{fun_ext}
 use Rattle.std.specs.Vec.{with_item}
 use Rattle.std.proofs.lemmas.List.{get_or_read}
@@ -14,6 +14,7 @@ use Rattle.model.specs.declared.running.Running.{Running}
 use Rattle.model.specs.State.{Trail, trail_of, Store, put_kid, set_count, set_lock, set_kid, set_inbox, set_tray}
 use Rattle.model.specs.Steps.{between}
 use Rattle.model.proofs.Between.{within}
+use Rattle.model.proofs.Stepped.{cond_map}
 use Rattle.model.proofs.Sums.{upd_same, upd_other}
 use Rattle.model.proofs.EntryLemmas.{nth_set, nth_read}
 use Rattle.cells.specs.declared.records.NodeWords.{NodeWords}
@@ -39,13 +40,9 @@ upd_twice f n v w = fun_ext (λ m. elim (cases_eq m n) [
   | inr z ↦ upd_other (upd f n v) n m w z ∙ upd_other f n m v z ∙ sym (upd_other f n m w z)
 ])
 
-by_cond : {A B : Type 0} (f : A → B) (b : Bool) (x y : A) → f (cond b x y) ≡ cond b (f x) (f y)
-by_cond f true x y = refl
-by_cond f false x y = refl
-
 -- a part of the entries, one of which has changed
 part : {A B : Type 0} (k : A → B) (f : ℕ → A) (n : ℕ) (v : A) → ◌≡◌ {A = ℕ → B} (λ m. k (upd f n v m)) (upd (λ m. k (f m)) n (k v))
-part k f n v = fun_ext (λ m. by_cond k (eqb m n) v (f m))
+part k f n v = fun_ext (λ m. cond_map k (eqb m n) v (f m) _ _ refl refl)
 
 -- the store whose party p has these slots, this trail and this running call
 abbrev pub set_own : {D : Type 0} → Store D → ℕ → (ℕ → ℕ) → Trail → Running D → Store D

@@ -1,45 +1,71 @@
--- A running call's step is always taken, and keeps the store sound.
-use Rattle.std.proofs.Common.{◌≡◌, ℕ, ◌≤◌, true, false, Some, None, Option, sym, refl, ◌∙◌, subst, arith}
+-- What a change of the program's store keeps; and that a running call's step is always taken.
+use Rattle.std.proofs.Common.{◌≡◌, ℕ, ◌≤◌, true, false, Some, None, Option, sym, refl, ◌∙◌, subst}
 use mathlib.Core.Logic.{∥∥₁_map}
 use Rattle.std.specs.Option.{IsSome}
 use Rattle.std.proofs.lemmas.Bool.{cond-true}
+use Rattle.kinds.specs.declared.kind.Kind.{Ghosts as KindMeaning}
 use Rattle.orders.specs.Limits.{last_party, largest_size}
+use Rattle.orders.specs.declared.order.Order.{Ghosts as OrderMeaning}
 use Rattle.model.specs.declared.words.Told.{Told}
 use Rattle.model.specs.Checks.{is_idle}
 use Rattle.model.specs.Sound.{Sound}
-use Rattle.model.specs.State.{Store}
+use Rattle.model.specs.State.{Store as State}
 use Rattle.model.specs.Steps.{decision, stepped, data_after}
-use Rattle.model.proofs.Stepped.{sound_stepped}
+use Rattle.cells.specs.declared.records.Cells.{Cells}
 use Rattle.cells.specs.Ready.{ready, StepsIfReady}
+use Rattle.cells.specs.View.{SameSizes, view_of, parties_of, nodes_of}
+use Rattle.store.specs.declared.store.Store.{Store}
 use Rattle.store.proofs.Readiness.{ready_when_sound}
 
--- the same store under equal sizes
-pub sound_sized : {D : Type 0} (N N' M M' : ℕ) (s : Store D) → N' ≡ N → M' ≡ M → ∥ Sound N M s ∥₁ → ∥ Sound N' M' s ∥₁
-sound_sized N N' M M' s n m S = subst (λ k. ∥ Sound k M' s ∥₁) (sym n) (subst (λ k. ∥ Sound N k s ∥₁) (sym m) S)
+-- what a store's type says of its cells
+abbrev pub StoreFacts : {D : Type 0} → Cells D → Type 0
+StoreFacts c = record {
+  parties : (1 ≤ parties_of c) × (parties_of c ≤ last_party);
+  nodes : (1 ≤ nodes_of c) × (nodes_of c ≤ largest_size);
+  sound : ∥ Sound (parties_of c) (nodes_of c) (view_of c) ∥₁;
+}
 
--- limits that a number is within, and an equal one
-pub within_still : (low high n n' : ℕ) → (low ≤ n) × (n ≤ high) → n' ≡ n → (low ≤ n') × (n' ≤ high)
-within_still low high n n' h e = (omega arith, omega arith)
+same_sound : {D : Type 0} (N N' M M' : ℕ) (s t : State D) → N' ≡ N → M' ≡ M → t ≡ s → Sound N M s → Sound N' M' t
+same_sound N N' M M' s t n m e S = rw (n, m, e) S
 
--- the step is taken: what it decides is told, and the store and the data are as it makes them
-pub record IsTaken {D : Type 0} (W : Type 0) (N M : ℕ) (s t : Store D) (info later : ℕ → D) (p x : ℕ) (r : Option (Told D W)) : Type 0 where
-  pub store_is : t ≡ stepped N M s info p x (decision {W = W} N M s info p x)
-  pub info_is : later ≡ data_after N M s info p x (decision {W = W} N M s info p x)
-  pub told : r ≡ Some (decision {W = W} N M s info p x).told
-  pub sound : ∥ Sound N M t ∥₁
+pub sizes_twice : {D : Type 0} {a b c : Cells D} → SameSizes a b → SameSizes b c → SameSizes a c
+sizes_twice h k = record { parties = k.parties ∙ h.parties; nodes = k.nodes ∙ h.nodes }
 
-pub is_taken : {D : Type 0} (W : Type 0) (N M : ℕ) (s : Store D) → ∥ Sound N M s ∥₁ → N ≤ last_party → M ≤ largest_size → (p : ℕ) → (1 ≤ p) × (p ≤ N) → is_idle (s.run p) ≡ false
-    → (entries : ℕ) → M ≤ entries → (info : ℕ → D) (x : ℕ) (t : Store D) (later : ℕ → D) (r : Option (Told D W)) → StepsIfReady {W = W} N M entries s t info later p x r → IsTaken W N M s t info later p x r
-is_taken W N M s S few_parties few_nodes p party runs entries long info x t later r h =
-    let d = decision {W = W} N M s info p x in
-    let all : ready N M entries s info p x d ≡ true = ready_when_sound W N M s S p party.0 party.1 few_parties few_nodes entries long info x runs in
-    let store = h.store_is ∙ cond-true (ready N M entries s info p x d) (stepped N M s info p x d) s all in
-    record {
-      store_is = store;
-      info_is = h.info_is ∙ cond-true (ready N M entries s info p x d) (data_after N M s info p x d) info all;
-      told = h.told ∙ cond-true (ready N M entries s info p x d) (Some d.told) None all;
-      sound = ∥∥₁_map S (λ S'. subst (Sound N M) (sym store) (sound_stepped W N M s S' p party.0 party.1 info x runs));
-    }
+-- a change of the program's store
+module _ {K A B D W : Type 0} {kind : KindMeaning K D W} {node_order : OrderMeaning A} {party_order : OrderMeaning B} (store : Store K A B D W kind node_order party_order) where
+  abbrev N : ℕ
+  N = parties_of store.cells
+
+  abbrev M : ℕ
+  M = nodes_of store.cells
+
+  abbrev s : State D
+  s = view_of store.cells
+
+  -- one that keeps its sizes and its soundness keeps what its type says
+  pub still_a_store : {c : Cells D} {t : State D} → SameSizes store.cells c → view_of c ≡ t → (Sound N M s → Sound N M t) → StoreFacts c
+  still_a_store {c} {t} z e kept = record {
+    parties = subst (λ n. (1 ≤ n) × (n ≤ last_party)) (sym z.parties) store.parties;
+    nodes = subst (λ n. (1 ≤ n) × (n ≤ largest_size)) (sym z.nodes) store.nodes;
+    sound = ∥∥₁_map store.sound (λ S. same_sound N (parties_of c) M (nodes_of c) t (view_of c) z.parties z.nodes e (kept S));
+  }
+
+  -- a step that is taken: what it decides is told, and the store and the data are as it makes them
+  pub record IsTaken (t : State D) (info later : ℕ → D) (p x : ℕ) (r : Option (Told D W)) : Type 0 where
+    pub store_is : t ≡ stepped N M s info p x (decision {W = W} N M s info p x)
+    pub info_is : later ≡ data_after N M s info p x (decision {W = W} N M s info p x)
+    pub told : r ≡ Some (decision {W = W} N M s info p x).told
+
+  pub is_taken : {p entries x : ℕ} {t : State D} {info later : ℕ → D} {r : Option (Told D W)} → (1 ≤ p) × (p ≤ N) → is_idle (s.run p) ≡ false → M ≤ entries
+      → StepsIfReady {W = W} N M entries s t info later p x r → IsTaken t info later p x r
+  is_taken {p} {entries} {x} {t} {info} {later} {r} party runs long h =
+      let d = decision {W = W} N M s info p x in
+      let all : ready N M entries s info p x d ≡ true = ready_when_sound W N M s store.sound p party.0 party.1 store.parties.1 store.nodes.1 entries long info x runs in
+      record {
+        store_is = h.store_is ∙ cond-true (ready N M entries s info p x d) (stepped N M s info p x d) s all;
+        info_is = h.info_is ∙ cond-true (ready N M entries s info p x d) (data_after N M s info p x d) info all;
+        told = h.told ∙ cond-true (ready N M entries s info p x d) (Some d.told) None all;
+      }
 
 -- so something is told
 pub some_told : {T : Type 0} (r : Option T) (x : T) → r ≡ Some x → IsSome r

@@ -6,7 +6,7 @@ use Rattle.std.proofs.lemmas.Bool.{true≢false, and_from, not_from_false, lt-lt
 use Rattle.orders.specs.Limits.{last_party, largest_size}
 use Rattle.refusals.specs.declared.Refusal.TheVariants.{NoKid, InboxFull, InboxEmpty}
 use Rattle.kinds.specs.declared.kids.Kid.{Kid}
-use Rattle.model.specs.Types.{Kids}
+use Rattle.model.specs.Types.{Kids, Outcome}
 use Rattle.kinds.specs.declared.kids.Kid.TheVariants.{First, Second, Third}
 use Rattle.model.specs.declared.tray.Tray.{Tray}
 use Rattle.model.specs.declared.tray.Tray.TheVariants.{Closed, Open, Holding}
@@ -20,7 +20,6 @@ use Rattle.model.specs.declared.running.Reading.TheVariants.{ReadNothing, ReadDa
 use Rattle.model.specs.declared.running.Running.{Running}
 use Rattle.model.specs.declared.running.Running.TheVariants.{Idle, Reads, GoesDown, Keeps, Drops, Hands, Fetches, TakesOut, Works, WalkReads, WalkGoesDown}
 use Rattle.model.specs.declared.outcomes.Answer.TheVariants.{AtNode}
-use Rattle.model.specs.Types.{Outcome}
 use Rattle.model.specs.declared.outcomes.Progress.TheVariants.{StillRunning}
 use Rattle.model.specs.declared.words.Address.{Address}
 use Rattle.model.specs.declared.words.Address.TheVariants.{Nowhere, CountOf, TrayOf}
@@ -313,17 +312,8 @@ ready_when_sound W N M s t p a b f g entries l info x z =
 
 -- no step of a call is a walk's fourth reading
 not_fourth : {D : Type 0} (r : Running D) → is_walking r ≡ false → IsFourth r → ⊥
-not_fourth Idle h z = z
-not_fourth (Reads g) h z = z
-not_fourth (GoesDown k) h z = z
-not_fourth (Keeps i) h z = z
-not_fourth (Drops i) h z = z
-not_fourth (Hands i q) h z = z
-not_fourth (Fetches i) h z = z
-not_fourth (TakesOut i v) h z = z
-not_fourth (Works j c) h z = z
 not_fourth (WalkReads t g) h z = true≢false h
-not_fourth (WalkGoesDown t k) h z = z
+not_fourth _ h z = z
 
 told_outcome : {D W : Type 0} (t : Told D W) → TellsAtOnce t → (o : Outcome D W) × (t ≡ Tells o)
 told_outcome (Tells o) h = (o, refl)

@@ -1,7 +1,7 @@
 -- What the parts of a settling promise, joined: how the notes stand after it, and that the walk goes on and tells as it must.
 use Rattle.std.proofs.Common.{◌≡◌, ℕ, ◌≤◌, Bool, true, false, cond, ◌&&◌, leb, length, Ok, Some, None, Option, sym, ap, ◌∙◌, true≢false}
 use Rattle.std.specs.Option.{is_some}
-use Rattle.std.proofs.lemmas.Bool.{and_from, le-leb, cond-true, cond-false}
+use Rattle.std.proofs.lemmas.Bool.{and_from, le-leb, cond-true}
 use Rattle.kinds.specs.declared.kind.Kind.{Ghosts as KindMeaning}
 use Rattle.kinds.specs.declared.kids.Kid.{Kid}
 use Rattle.model.specs.declared.outcomes.Answer.TheVariants.{WorthIs}
@@ -26,6 +26,14 @@ entries_stand M n lists h k l =
     let w = length lists.worths.now in
     and_from (between 1 M n) (leb M m && leb M w) h (and_from (leb M m) (leb M w) (le-leb M m k) (le-leb M w l))
 
+-- at the top a walk tells the worth of its node n, and how many are marked
+module _ {K D W : Type 0} (kind : KindMeaning K D W) (M : ℕ) (lists : Lists W) (n : ℕ) where
+  abbrev pub ending : Outcome D W
+  ending = Ok (Ended (WorthIs (nth kind.none lists.worths.now n) (marked M (marks_of M lists.marks.now))))
+
+  pub ends_so : (w : W) (m : ℕ) → w ≡ nth kind.none lists.worths.now n → m ≡ marked M (marks_of M lists.marks.now) → ◌≡◌ {A = Outcome D W} (Ok (Ended (WorthIs w m))) ending
+  ends_so w m ew em = cc
+
 module _ {K D W : Type 0} (kind : KindMeaning K D W) (M n : ℕ) (lists lists' : Lists W) (read : NodeRead D) where
   abbrev pub before : Notes W
   before = noted_on kind M lists
@@ -48,25 +56,13 @@ module _ {K D W : Type 0} (kind : KindMeaning K D W) (M n : ℕ) (lists lists' :
   last_noted (Some k) h told set e w lm lw f es = absurd (true≢false h)
   last_noted None h told set e w lm lw f es = ap (noted_on kind M) es ∙ f (e ∙ entries_stand M n lists w lm lw)
 
-  module _ (N : ℕ) (s t : Store D) (p : ℕ) (below : Option Kid) (h : between 1 N p ≡ true) (eb : below ≡ first_unmarked (marks_alone M lists.marks.now) read.kids) (et : t ≡ cond (between 1 N p) (goes_on s p read.situation below) s) (en : n ≡ last s p) (ea : after ≡ noted_for below)
-      (told : Bool) (ei : told ≡ is_idle (t.run p)) where
-    abbrev ending : ℕ → Outcome D W
-    ending m = Ok (Ended (WorthIs (nth kind.none lists'.worths.now m) (marked M (marks_of M lists'.marks.now))))
-
-    settled_as : (r : Outcome D W) → r ≡ cond told (ending n) (Ok StillRunning) → Settled kind M s t p read lists lists' r
-    settled_as r er = record {
-      below = below;
-      below_is = eb ∙ marks_alone_tell kind.none M lists.marks.now lists.worths.now read.kids;
-      goes = et ∙ cond-true (between 1 N p) (goes_on s p read.situation below) s h;
-      notes = ea ∙ ap (λ m. elim below as (λ _. Notes W) [ Some k ↦ before | None ↦ noted before m (worked_out kind.worth kind.none before read) ]) en;
-      tells = er ∙ ap (λ b. cond b (ending n) (Ok StillRunning)) ei ∙ ap (λ m. cond (is_idle (t.run p)) (ending m) (Ok StillRunning)) en;
-    }
-
-    -- a walk that goes on tells so
-    pub settles_on : told ≡ false → Settled kind M s t p read lists lists' (Ok StillRunning)
-    settles_on z = settled_as (Ok StillRunning) (sym (cond-false told (ending n) (Ok StillRunning) z))
-
-    -- at the top it tells the worth of its node, and how many are marked
-    pub settles_last : told ≡ true → (w : W) (m : ℕ) → w ≡ nth kind.none lists'.worths.now n → m ≡ marked M (marks_of M lists'.marks.now) → Settled kind M s t p read lists lists' (Ok (Ended (WorthIs w m)))
-    settles_last z w m ew em = settled_as (Ok (Ended (WorthIs w m)))
-        (ap (λ x. Ok (Ended (WorthIs x m))) ew ∙ ap (λ x. Ok (Ended (WorthIs (nth kind.none lists'.worths.now n) x))) em ∙ sym (cond-true told (ending n) (Ok StillRunning) z))
+  -- the parts joined
+  pub settled_as : (N : ℕ) (s t : Store D) (p : ℕ) (below : Option Kid) → between 1 N p ≡ true → below ≡ first_unmarked (marks_alone M lists.marks.now) read.kids → t ≡ cond (between 1 N p) (goes_on s p read.situation below) s → n ≡ last s p → after ≡ noted_for below
+      → (told : Bool) → told ≡ is_idle (t.run p) → (r : Outcome D W) → r ≡ cond told (ending kind M lists' n) (Ok StillRunning) → Settled kind M s t p read lists lists' r
+  settled_as N s t p below h eb et en ea told ei r er = record {
+    below = below;
+    below_is = eb ∙ marks_alone_tell kind.none M lists.marks.now lists.worths.now read.kids;
+    goes = et ∙ cond-true (between 1 N p) (goes_on s p read.situation below) s h;
+    notes = ea ∙ ap (λ m. elim below as (λ _. Notes W) [ Some k ↦ before | None ↦ noted before m (worked_out kind.worth kind.none before read) ]) en;
+    tells = er ∙ ap (λ b. cond b (ending kind M lists' n) (Ok StillRunning)) ei ∙ ap (λ m. cond (is_idle (t.run p)) (ending kind M lists' m) (Ok StillRunning)) en;
+  }

@@ -5,9 +5,9 @@ use Rattle.kinds.specs.declared.kids.Kid.{Kid}
 use Rattle.model.specs.declared.outcomes.Answer.TheVariants.{WorthIs}
 use Rattle.model.specs.Types.{Outcome}
 use Rattle.model.specs.declared.outcomes.Progress.TheVariants.{StillRunning, Ended}
-use Rattle.model.specs.declared.running.Reading.TheVariants.{ReadNothing, ReadData, ReadFirst, ReadSecond}
+use Rattle.model.specs.declared.running.Reading.TheVariants.{ReadSecond}
 use Rattle.model.specs.declared.running.Running.{Running}
-use Rattle.model.specs.declared.running.Running.TheVariants.{Idle, Reads, GoesDown, Keeps, Drops, Hands, Fetches, TakesOut, Works, WalkReads, WalkGoesDown}
+use Rattle.model.specs.declared.running.Running.TheVariants.{Idle, WalkReads, WalkGoesDown}
 use Rattle.model.specs.declared.words.Decision.{Decision}
 use Rattle.model.specs.declared.words.NodeRead.{NodeRead}
 use Rattle.model.specs.declared.words.Told.{Told}
@@ -43,20 +43,8 @@ module _ {D : Type 0} (W : Type 0) (N M : ℕ) (s : Store D) (info : ℕ → D) 
   other r f e = absurd (not_settled (from r).told read (tells_at_once W r (loaded s info (address N M r p x (s.slot p) (last s p))) p x (s.slot p) (last s p) f) e)
 
   pub settled_at : (r : Running D) → (from r).told ≡ Settles read → Settled r
-  settled_at Idle e = other Idle (λ z. z) e
-  settled_at (Reads g) e = other (Reads g) (λ z. z) e
-  settled_at (GoesDown k) e = other (GoesDown k) (λ z. z) e
-  settled_at (Keeps i) e = other (Keeps i) (λ z. z) e
-  settled_at (Drops i) e = other (Drops i) (λ z. z) e
-  settled_at (Hands i q) e = other (Hands i q) (λ z. z) e
-  settled_at (Fetches i) e = other (Fetches i) (λ z. z) e
-  settled_at (TakesOut i v) e = other (TakesOut i v) (λ z. z) e
-  settled_at (Works j c) e = other (Works j c) (λ z. z) e
-  settled_at (WalkReads u ReadNothing) e = other (WalkReads u ReadNothing) (λ z. z) e
-  settled_at (WalkReads u (ReadData c)) e = other (WalkReads u (ReadData c)) (λ z. z) e
-  settled_at (WalkReads u (ReadFirst c i)) e = other (WalkReads u (ReadFirst c i)) (λ z. z) e
   settled_at (WalkReads u (ReadSecond c i j)) e = (refl, refl)
-  settled_at (WalkGoesDown u k) e = other (WalkGoesDown u k) (λ z. z) e
+  settled_at r e = other r (λ z. z) e
 
 -- going on from there is the model's going on
 module _ {D W : Type 0} (worth : D → Situation → W → W → W → W) (blank : W) (s : Store D) (p : ℕ) (t : Situation) where

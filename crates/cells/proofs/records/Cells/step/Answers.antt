@@ -1,47 +1,25 @@
-use Rattle.std.proofs.Common.{ℕ, sym, ap, ◌∙◌}
-use Rattle.model.specs.Entries.{nth}
+use Rattle.std.proofs.Common.{sym, ap, ◌∙◌}
 use Rattle.model.specs.State.{trail_of}
 use Rattle.cells.specs.Ready.{has_room}
-use Rattle.cells.specs.View.{view_of}
 use Rattle.cells.proofs.Begun.{settles}
 use Rattle.cells.proofs.Puts.{same_trail}
-use Rattle.cells.proofs.Stepping.{looks, no_word, no_move, no_room, steps}
-use Rattle.cells.proofs.Views.{with_record}
+use Rattle.cells.proofs.Stepping.{no_word, no_move, no_room, steps}
 use Rattle.cells.proofs.records.Cells.step.Goals as goal
 
 pub returns-in_err-word-clause-steps : goal.returns-in_err-word-clause-steps
-returns-in_err-word-clause-steps g c =
-    let s = c.args.self.now in
-    let l = c.args.data.now in
-    let p : ℕ = c.args.party in
-    let x : ℕ = c.args.pick in
-    let y = c.in_ok-record.record.now in
-    let own = c.in_ok-record.ensures.1 in
-    let at = looks g.row.W.Denot s l p x y own c.sizes.result c.sizes.ensures c.address_of-address.ensures in
-    λ d. rw c.from_residual-in_err-word.ensures (no_word g.row.W.Denot s l p x y own d c.address_of-address.result at c.in_err-word.ensures.stands)
+returns-in_err-word-clause-steps g c = λ d. rw c.from_residual-in_err-word.ensures
+    (no_word g.row.W.Denot c.args.self.now c.args.data.now c.args.party c.args.pick c.in_ok-record.ensures.1 c.sizes.ensures c.address_of-address.ensures d
+    c.in_err-word.ensures.stands)
 
 pub returns-in_err-decision-clause-steps : goal.returns-in_err-decision-clause-steps
-returns-in_err-decision-clause-steps g c =
-    let s = c.args.self.now in
-    let l = c.args.data.now in
-    let p : ℕ = c.args.party in
-    let x : ℕ = c.args.pick in
-    let y = c.in_ok-record.record.now in
-    let own = c.in_ok-record.ensures.1 in
-    let at = looks g.row.W.Denot s l p x y own c.sizes.result c.sizes.ensures c.address_of-address.ensures in
-    λ d. rw c.from_residual-in_err-decision.ensures
-    (no_move g.row.W.Denot s l p x y own d c.address_of-address.result at c.in_ok-word.word (c.in_ok-word.ensures.value d) c.decide.result c.decide.ensures c.in_err-decision.was)
+returns-in_err-decision-clause-steps g c = λ d. rw c.from_residual-in_err-decision.ensures
+    (no_move g.row.W.Denot c.args.self.now c.args.data.now c.args.party c.args.pick c.in_ok-record.ensures.1 c.sizes.ensures c.address_of-address.ensures d
+    (c.in_ok-word.ensures.value d) c.decide.ensures c.in_err-decision.was)
 
 pub returns-then-not-has_room-clause-steps : goal.returns-then-not-has_room-clause-steps
-returns-then-not-has_room-clause-steps g c =
-    let s = c.args.self.now in
-    let l = c.args.data.now in
-    let p : ℕ = c.args.party in
-    let x : ℕ = c.args.pick in
-    let y = c.in_ok-record.record.now in
-    let own = c.in_ok-record.ensures.1 in
-    let at = looks g.row.W.Denot s l p x y own c.sizes.result c.sizes.ensures c.address_of-address.ensures in
-    λ d. no_room g.row.W.Denot s l p x y own d c.address_of-address.result at c.in_ok-word.word (c.in_ok-word.ensures.value d) c.decide.result c.in_ok-decision.decision c.decide.ensures c.in_ok-decision.was c.if-not-has_room.ensures
+returns-then-not-has_room-clause-steps g c = λ d.
+    no_room g.row.W.Denot c.args.self.now c.args.data.now c.args.party c.args.pick c.in_ok-record.ensures.1 c.sizes.ensures c.address_of-address.ensures d
+    (c.in_ok-word.ensures.value d) c.decide.ensures c.in_ok-decision.was c.if-not-has_room.ensures
 
 pub put-requires : goal.put-requires
 put-requires g c = sym c.in_ok-word.ensures.stands
@@ -54,17 +32,9 @@ settle-requires g c =
 
 pub returns-clause-steps : goal.returns-clause-steps
 returns-clause-steps g c =
-    let s = c.args.self.now in
-    let l = c.args.data.now in
-    let p : ℕ = c.args.party in
-    let x : ℕ = c.args.pick in
-    let y = c.in_ok-record.record.now in
-    let own = c.in_ok-record.ensures.1 in
     let k = c.in_ok-decision.decision in
-    let t = c.put.new.self in
     let lent = c.in_ok-lend.ensures.value in
-    let at = looks g.row.W.Denot s l p x y own c.sizes.result c.sizes.ensures c.address_of-address.ensures in
-    let last = settles t p lent.0 c.in_ok-lend.field-0.now c.settle.new.own lent.1 k.change k.next c.settle.ensures in
-    λ d. steps g.row.W.Denot s l p x y own d c.address_of-address.result at c.in_ok-word.word (c.in_ok-word.ensures.value d) c.decide.result k c.decide.ensures c.in_ok-decision.was
-    c.in_ok-record.ensures.0 c.in_ok-word.ensures.stands c.if-not-has_room.ensures
-    (view_of t) (view_of (with_record t p c.settle.new.own)) (nth d c.put.new.data) c.put.ensures.becomes.view (c.put.ensures.entries d) last.view
+    let last = settles c.put.new.self c.args.party lent.0 c.in_ok-lend.field-0.now c.settle.new.own lent.1 k.change k.next c.settle.ensures in
+    λ d. steps g.row.W.Denot c.args.self.now c.args.data.now c.args.party c.args.pick c.in_ok-record.ensures.1 c.sizes.ensures c.address_of-address.ensures d
+    (c.in_ok-word.ensures.value d) c.decide.ensures c.in_ok-decision.was c.in_ok-record.ensures.0 c.in_ok-word.ensures.stands c.if-not-has_room.ensures
+    c.put.ensures.becomes.view (c.put.ensures.entries d) last.view

@@ -1,41 +1,28 @@
-use Rattle.std.proofs.Common.{ℕ, length, subst}
-use Rattle.orders.specs.Limits.{last_party, largest_size}
-use Rattle.model.specs.Entries.{nth}
+use Rattle.std.proofs.Common.{ℕ, subst}
 use Rattle.model.specs.Runs.{Asks, asks_nodes, asks_parties}
 use Rattle.model.specs.Setting.{meaning_of}
-use Rattle.cells.specs.View.{view_of, parties_of, nodes_of}
+use Rattle.model.proofs.Stepped.{sound_stepped}
 use Rattle.store.specs.Given.{zero_data}
-use Rattle.store.proofs.Accepted.{within_still, sound_sized, is_taken, some_told}
+use Rattle.store.proofs.Accepted.{still_a_store, is_taken, some_told}
 use Rattle.store.proofs.store.Store.take_step.Goals as goal
 
 pub invariant_of-self : goal.invariant_of-self
 invariant_of-self g c =
-    let s = c.args.self.now in
-    let zero = zero_data g.K.Kind in
-    let h = is_taken g.row.K-Worth.Denot (parties_of s.cells) (nodes_of s.cells) (view_of s.cells) s.sound s.parties.1 s.nodes.1 c.args.party c.requires.party c.requires.runs
-    (length c.args.data.now) c.requires.entries (nth zero c.args.data.now) c.pick-number.result (view_of c.step.new.self) (nth zero c.step.new.data) c.step.result (c.step.ensures.steps zero) in
-    let after = c.step.new.self in
-    let z = c.step.ensures.sizes in
-    record {
-      parties = within_still 1 last_party (parties_of s.cells) (parties_of after) s.parties z.parties;
-      nodes = within_still 1 largest_size (nodes_of s.cells) (nodes_of after) s.nodes z.nodes;
-      sound = sound_sized (parties_of s.cells) (parties_of after) (nodes_of s.cells) (nodes_of after) (view_of after) z.parties z.nodes h.sound;
-    }
+    let r = c.requires in
+    let h = is_taken c.args.self.now r.party r.runs r.entries (c.step.ensures.steps (zero_data g.K.Kind)) in
+    still_a_store c.args.self.now c.step.ensures.sizes h.store_is (λ S. sound_stepped _ _ _ _ S c.args.party r.party.0 r.party.1 _ c.pick-number.result r.runs)
 
 pub unwrap-requires : goal.unwrap-requires
 unwrap-requires g c =
-    let s = c.args.self.now in
-    let zero = zero_data g.K.Kind in
-    let h = is_taken g.row.K-Worth.Denot (parties_of s.cells) (nodes_of s.cells) (view_of s.cells) s.sound s.parties.1 s.nodes.1 c.args.party c.requires.party c.requires.runs
-    (length c.args.data.now) c.requires.entries (nth zero c.args.data.now) c.pick-number.result (view_of c.step.new.self) (nth zero c.step.new.data) c.step.result (c.step.ensures.steps zero) in
+    let r = c.requires in
+    let h = is_taken c.args.self.now r.party r.runs r.entries (c.step.ensures.steps (zero_data g.K.Kind)) in
     some_told c.step.result _ h.told
 
 pub returns : goal.returns
 returns g c =
     let s = c.args.self.now in
-    let zero = zero_data g.K.Kind in
-    let h = is_taken g.row.K-Worth.Denot (parties_of s.cells) (nodes_of s.cells) (view_of s.cells) s.sound s.parties.1 s.nodes.1 c.args.party c.requires.party c.requires.runs
-    (length c.args.data.now) c.requires.entries (nth zero c.args.data.now) c.pick-number.result (view_of c.step.new.self) (nth zero c.step.new.data) c.step.result (c.step.ensures.steps zero) in
+    let r = c.requires in
+    let h = is_taken s r.party r.runs r.entries (c.step.ensures.steps (zero_data g.K.Kind)) in
     let x : ℕ = c.pick-number.result in
     let runs = c.running-running.ensures in
     record {
