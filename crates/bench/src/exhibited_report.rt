@@ -2,7 +2,7 @@
 use orders::limits::Party;
 
 // Begin by Begin and Turn by Turn, as in the model. Party 1's second Make is still under way at the end.
-const MOVES: [(Party, &'static str); 31] = [
+const MOVES: [(Party, &str); 31] = [
     (1, "begins a Make into slot 1"),
     (1, "opens its tray"),
     (1, "reads its tray"),

@@ -6,7 +6,7 @@ use kinds::kind::Kind;
 use kinds::maps::{Kpa, MapData, Maps};
 
 // Name, code and the kids' worths.
-const NODES: [(&'static str, Code, Kpa, Kpa, Kpa); 4] = [
+const NODES: [(&str, Code, Kpa, Kpa, Kpa); 4] = [
     ("scaled", Code::Scaled, 7, 50, 0),
     ("scaled", Code::Scaled, -7, 50, 0),
     ("sum", Code::Sum, 900_000, 200_000, 0),

@@ -1,8 +1,9 @@
 -- The lists of node words and party records as the model's store.
-use Rattle.std.specs.Prelude.{◌≡◌, ℕ, vec_items, vec_len}
+use Rattle.std.specs.Prelude.{◌≡◌, ℕ, cond, vec_items, vec_len}
 use Rattle.model.specs.Entries.{nth}
 use Rattle.model.specs.Party.{new_record}
 use Rattle.model.specs.State.{Store, empty_kids, trail_of}
+use Rattle.model.specs.Steps.{between}
 use Rattle.model.specs.declared.party.PartyRecord.{PartyRecord}
 use Rattle.cells.specs.declared.records.NodeWords.{NodeWords}
 use Rattle.cells.specs.declared.records.Cells.{Cells}
@@ -49,3 +50,7 @@ pub record SameSizes {D : Type 0} (before after : Cells D) : Type 0 where
 pub record Becomes {D : Type 0} (before after : Cells D) (s : Store D) : Type 0 where
   pub view : view_of after ≡ s
   pub sizes : SameSizes before after
+
+-- the store's successor where there is such a party, and else the store
+abbrev pub BecomesIfParty : {D : Type 0} → Cells D → Cells D → ℕ → (Store D → Store D) → Type 0
+BecomesIfParty before after p f = Becomes before after (cond (between 1 (parties_of before) p) (f (view_of before)) (view_of before))

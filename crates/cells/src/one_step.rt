@@ -7,7 +7,7 @@ ghost use Rattle.cells.specs.Ready.{has_room, StepsIfReady};
 ghost use Rattle.cells.specs.View.{view_of, parties_of, nodes_of, SameSizes};
 
 use crate::records::Cells;
-use model::nodes::SLOTS;
+use model::nodes::is_slot;
 use model::party::PartyRecord;
 use model::running::Running;
 use model::trail::{LONGEST_TRAIL, Trail};
@@ -22,7 +22,7 @@ fn has_room(trail: &Trail, change: Change) -> bool
 {
     match change {
         Change::Stays => true,
-        Change::Fills(i, _) => (1..=SLOTS).contains(&usize::from(i)),
+        Change::Fills(i, _) => is_slot(i),
         Change::Lengthens(_) => trail.length < LONGEST_TRAIL,
     }
 }

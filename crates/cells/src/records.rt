@@ -13,13 +13,13 @@ pub struct NodeWords {
 }
 
 // The records of all parties; party p's stands at p - 1.
-#[derive(Drop)]
+#[derive(Debug, Drop)]
 pub struct Table<D> {
     pub records: Vec<PartyRecord<D>>,
 }
 
 // The words of all nodes, node n's at n - 1, and the table of party records.
-#[derive(Drop)]
+#[derive(Debug, Drop)]
 pub struct Cells<D> {
     pub nodes: Vec<NodeWords>,
     pub table: Table<D>,

@@ -9,7 +9,7 @@ ghost use Rattle.model.specs.declared.running.Reading.TheVariants.{ReadNothing};
 ghost use Rattle.model.specs.declared.running.Running.TheVariants.{WalkReads};
 ghost use Rattle.cells.specs.Own.{Holds};
 ghost use Rattle.cells.specs.Started.{run_begun, trail_begun};
-ghost use Rattle.cells.specs.View.{view_of, parties_of, Becomes};
+ghost use Rattle.cells.specs.View.{parties_of, BecomesIfParty};
 
 use crate::records::Cells;
 use kinds::gearbox::Situation;
@@ -75,7 +75,7 @@ impl<D: Copy> Cells<D> {
     // The party begins the call. What is no party is refused, and nothing changes.
     pub fn start(&mut self, party: Party, call: &Call<D>) -> Result<(), Refusal>
         ensures told { result ≡ (if between 1 (parties_of self.old) party then Ok tt else Err NoSuchParty) }
-        ensures becomes { Becomes self.old self.new (if between 1 (parties_of self.old) party then started call.now (view_of self.old) party else view_of self.old) }
+        ensures becomes { BecomesIfParty self.old self.new party (λ s. started call.now s party) }
     {
         let Some(record) = self.table.lend(party) else {
             return Err(Refusal::NoSuchParty);
@@ -92,7 +92,7 @@ impl<D: Copy> Cells<D> {
         situation: Situation,
     ) -> Result<(), Refusal>
         ensures told { result ≡ (if between 1 (parties_of self.old) party then Ok tt else Err NoSuchParty) }
-        ensures becomes { Becomes self.old self.new (if between 1 (parties_of self.old) party then started_walk slot situation (view_of self.old) party else view_of self.old) }
+        ensures becomes { BecomesIfParty self.old self.new party (λ s. started_walk slot situation s party) }
     {
         let Some(record) = self.table.lend(party) else {
             return Err(Refusal::NoSuchParty);

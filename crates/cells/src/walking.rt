@@ -6,7 +6,7 @@ ghost use Rattle.model.specs.State.{trail_of};
 ghost use Rattle.model.specs.Steps.{between};
 ghost use Rattle.model.specs.Walks.{resumes};
 ghost use Rattle.cells.specs.Own.{Holds};
-ghost use Rattle.cells.specs.View.{view_of, parties_of, Becomes};
+ghost use Rattle.cells.specs.View.{view_of, BecomesIfParty};
 ghost use Rattle.cells.specs.Walked.{goes_on, runs_on, trails_on};
 
 use crate::records::Cells;
@@ -45,7 +45,7 @@ impl<D: Copy> Cells<D> {
     // ended. Nothing happens for what is no party.
     pub fn go_on(&mut self, party: Party, situation: Situation, below: Option<Kid>) -> bool
         ensures told { result ≡ is_idle ((view_of self.new).run party) }
-        ensures becomes { Becomes self.old self.new (if between 1 (parties_of self.old) party then goes_on (view_of self.old) party situation below else view_of self.old) }
+        ensures becomes { BecomesIfParty self.old self.new party (λ s. goes_on s party situation below) }
     {
         let Some(record) = self.table.lend(party) else {
             return true;

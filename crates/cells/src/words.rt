@@ -4,7 +4,7 @@ ghost use Rattle.model.specs.Entries.{nth};
 ghost use Rattle.model.specs.State.{set_inbox, set_tray};
 ghost use Rattle.model.specs.Steps.{between, loaded, written, data_written};
 ghost use Rattle.cells.specs.Ready.{stands};
-ghost use Rattle.cells.specs.View.{view_of, words_of, parties_of, nodes_of, Becomes};
+ghost use Rattle.cells.specs.View.{view_of, words_of, parties_of, nodes_of, Becomes, BecomesIfParty};
 
 use crate::records::{Cells, NodeWords};
 use model::entries::entry_at;
@@ -37,7 +37,7 @@ impl<D: Copy> Cells<D> {
     }
 
     fn set_inbox(&mut self, q: Party, v: Node)
-        ensures { Becomes self.old self.new (if between 1 (parties_of self.old) q then set_inbox (view_of self.old) q v else view_of self.old) }
+        ensures { BecomesIfParty self.old self.new q (λ s. set_inbox s q v) }
     {
         if let Some(record) = self.table.lend(q) {
             record.inbox = v;
@@ -45,7 +45,7 @@ impl<D: Copy> Cells<D> {
     }
 
     fn set_tray(&mut self, q: Party, v: Tray)
-        ensures { Becomes self.old self.new (if between 1 (parties_of self.old) q then set_tray (view_of self.old) q v else view_of self.old) }
+        ensures { BecomesIfParty self.old self.new q (λ s. set_tray s q v) }
     {
         if let Some(record) = self.table.lend(q) {
             record.tray = v;

@@ -3,7 +3,7 @@ ghost use Rattle.refusals.specs.declared.Refusal.TheVariants.{Busy};
 ghost use Rattle.kinds.specs.Situations.{Describes};
 ghost use Rattle.model.specs.declared.calls.Asked.TheVariants.{AsksCall, AsksWalk};
 ghost use Rattle.model.specs.Checks.{first_fault, is_idle, no_receiver};
-ghost use Rattle.checks.specs.Faults.{AcceptedUnless, begin_fault_of};
+ghost use Rattle.checks.specs.Faults.{AcceptedUnless, RefusedIf, begin_fault_of};
 
 use crate::calls::check_call;
 use crate::refuse::refuse_if;
@@ -23,18 +23,18 @@ pub fn check_begin<K: Kind>(
     call: &Call<K::Data>,
     party: Party,
     lengths: Lengths,
-    record: &PartyRecord<K::Data>,
+    own: &PartyRecord<K::Data>,
     sizes: Sizes,
 ) -> Result<(), Refusal>
-    ensures { AcceptedUnless (begin_fault_of K.Kind.suits sizes party (AsksCall call.now) lengths «record».now) result }
+    ensures { AcceptedUnless (begin_fault_of K.Kind.suits sizes party (AsksCall call.now) lengths own.now) result }
 {
     refuse_if(
         !sizes.has_party(party) || no_receiver(call, sizes),
         Refusal::NoSuchParty,
     )?;
     refuse_if(!lengths.covers_call(sizes.nodes), Refusal::ShortList)?;
-    check_idle(&record.running)?;
-    check_call::<K>(call, record)
+    check_idle(&own.running)?;
+    check_call::<K>(call, own)
 }
 
 // Only a Hand has a receiver.
@@ -52,21 +52,21 @@ pub fn check_begin_walk<K: Kind>(
     walk: Walk,
     party: Party,
     lengths: Lengths,
-    record: &PartyRecord<K::Data>,
+    own: &PartyRecord<K::Data>,
     sizes: Sizes,
 ) -> Result<Situation, Refusal>
-    ensures fault { AcceptedUnless (begin_fault_of K.Kind.suits sizes party (AsksWalk walk) lengths «record».now) result }
+    ensures fault { AcceptedUnless (begin_fault_of K.Kind.suits sizes party (AsksWalk walk) lengths own.now) result }
     ensures situation { IfOk result (λ s. Describes s walk.range walk.gear walk.temperature) }
 {
     refuse_if(!sizes.has_party(party), Refusal::NoSuchParty)?;
     refuse_if(!lengths.covers_walk(sizes.nodes), Refusal::ShortList)?;
-    check_idle(&record.running)?;
-    check_walk::<K>(walk, record)
+    check_idle(&own.running)?;
+    check_walk::<K>(walk, own)
 }
 
 // A party runs one call at a time.
 fn check_idle<D: Copy>(running: &Running<D>) -> Result<(), Refusal>
-    ensures { AcceptedUnless (first_fault ((not (is_idle running.now), Busy) ∷ [])) result }
+    ensures { RefusedIf (not (is_idle running.now)) Busy result }
 {
     refuse_if(!running.is_idle(), Refusal::Busy)
 }

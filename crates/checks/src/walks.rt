@@ -12,13 +12,13 @@ use refusals::Refusal;
 // What a walk asks of its numbers and of its party's slots and trail.
 pub(crate) fn check_walk<K: Kind>(
     walk: Walk,
-    record: &PartyRecord<K::Data>,
+    own: &PartyRecord<K::Data>,
 ) -> Result<Situation, Refusal>
-    ensures fault { AcceptedUnless (walk_fault_of K.Kind.suits walk «record».now) result }
+    ensures fault { AcceptedUnless (walk_fault_of K.Kind.suits walk own.now) result }
     ensures situation { IfOk result (λ s. Describes s walk.range walk.gear walk.temperature) }
 {
     check_slot(walk.slot)?;
     let situation = Situation::new(walk.range, walk.gear, walk.temperature)?;
-    check_taking(walk.slot, !record.trail.is_none(), record)?;
+    check_taking(walk.slot, !own.trail.is_none(), own)?;
     Ok(situation)
 }

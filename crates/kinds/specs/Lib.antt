@@ -7,5 +7,5 @@ pub mod Decoding
 pub mod Maps
 pub mod Traces
 pub mod FirstKids
-pub mod MapsKindLemmas
+pub mod MapsLemmas
 pub mod Words

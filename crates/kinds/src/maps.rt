@@ -2,7 +2,7 @@ ghost use Rattle.std.specs.Prelude.{◌≡◌, ◌<◌, pos, ◌+ℤ◌, ◌-ℤ
 ghost use Rattle.std.proofs.Common.{ap, ◌∙◌, rules};
 ghost use Rattle.kinds.specs.Maps.{number_fits, exactly, limited, is_zero, worth_as, map_fits, map_worth, map_data, map_bytes, map_from, MapStorable};
 ghost use Rattle.kinds.specs.Codes.{code_of};
-ghost use Rattle.kinds.specs.MapsKindLemmas.{unfit};
+ghost use Rattle.kinds.specs.MapsLemmas.{unfit};
 ghost use Rattle.std.proofs.lemmas.Int.{of_z-to_z};
 ghost use Rattle.std.specs.Int.{w32};
 ghost use Rattle.kinds.specs.Bytes.{value_of, four_bytes};
@@ -36,6 +36,7 @@ impl MapData {
 }
 
 // The kind of shift maps.
+#[derive(Clone, Copy, Debug, PartialEq, Eq)]
 pub struct Maps;
 
 const SMALLEST: i32 = -1_000_000;

@@ -32,6 +32,7 @@ impl fmt::Display for Worst {
 }
 
 // The kind of fault traces.
+#[derive(Clone, Copy, Debug, PartialEq, Eq)]
 pub struct Traces;
 
 const GREATEST_SEVERITY: u8 = 9;

@@ -56,14 +56,14 @@ impl Lengths {
         }
     }
 
-    // The data has an entry for each node.
+    // The data list has an entry for each node.
     pub fn covers_call(self, nodes: usize) -> bool
         ensures { result ≡ not (nat_lt self.entries nodes) }
     {
         self.entries >= nodes
     }
 
-    // So have the marks and worths that a walk notes beside the data.
+    // The data list has an entry for each node, and so have the marks and the worths that a walk notes.
     pub fn covers_walk(self, nodes: usize) -> bool
         ensures { result ≡ not (nat_lt self.entries nodes || (nat_lt self.marks nodes || nat_lt self.worths nodes)) }
     {

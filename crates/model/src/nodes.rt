@@ -1,4 +1,8 @@
 // Numbers of nodes and slots, and the kids of a node.
+ghost use Rattle.std.specs.Prelude.{◌≡◌};
+ghost use Rattle.model.specs.Checks.{last_slot};
+ghost use Rattle.model.specs.Steps.{between};
+
 use kinds::kids::PerKid;
 use orders::limits::Number;
 
@@ -10,5 +14,12 @@ pub type Slot = u8;
 
 pub const SLOTS: usize = 8;
 
-// A number for each kid position: the kids of a node, or the slots that are to give them; 0 for none.
+// Whether the number is a slot's.
+pub fn is_slot(i: Slot) -> bool
+    ensures { result ≡ between 1 last_slot i }
+{
+    (1..=SLOTS).contains(&usize::from(i))
+}
+
+// The kids of a node; 0 for none.
 pub type Kids = PerKid<Node>;

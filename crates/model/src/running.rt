@@ -1,17 +1,17 @@
 ghost use Rattle.std.specs.Prelude.{◌≡◌};
 ghost use Rattle.model.specs.Checks.{is_idle, is_walking};
 
-use crate::nodes::{Kids, Node, Slot};
+use crate::nodes::{Node, Slot};
 use crate::place::Place;
 use kinds::gearbox::Situation;
-use kinds::kids::Kid;
+use kinds::kids::{Kid, PerKid};
 use orders::limits::Party;
 
 // What a Make is to make: the slot to fill, the slots that give the kids, and the data.
 #[derive(Clone, Copy, Debug, PartialEq, Eq)]
 pub struct Plan<D> {
     pub slot: Slot,
-    pub kids: Kids,
+    pub kids: PerKid<Slot>,
     pub given: D,
 }
 

@@ -7,7 +7,7 @@ use std::error::Error;
 use std::fmt;
 
 // Why no store was opened. Want of memory is no refusal and has no number.
-#[derive(Debug, Drop)]
+#[derive(Clone, Copy, Debug, PartialEq, Eq)]
 pub enum OpenError {
     Refused(Refusal),
     NoMemory(AllocError),

@@ -41,7 +41,7 @@ impl<K: Kind, U: Order + Drop, V: Order + Drop> Store<K, U, V> {
         if usize::from(node_order.size()) != sizes.nodes
             || usize::from(party_order.size()) != sizes.parties
         {
-            return Err(OpenError::from(Refusal::OrderOfAnotherSize));
+            return Err(OpenError::Refused(Refusal::OrderOfAnotherSize));
         }
         let cells = Cells::new(heap, sizes)?;
         Ok(Store {

@@ -12,13 +12,13 @@ impl<K: Kind, U: Order + Drop, V: Order + Drop> Store<K, U, V> {
     pub fn parties(&self) -> Party
         ensures { result ≡ parties_of self.now.cells }
     {
-        self.cells.table.records.len() as Party
+        self.cells.sizes().parties as Party
     }
 
     // How many nodes the store has.
     pub fn nodes(&self) -> Node
         ensures { result ≡ nodes_of self.now.cells }
     {
-        self.cells.nodes.len() as Node
+        self.cells.sizes().nodes as Node
     }
 }
