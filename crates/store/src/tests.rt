@@ -68,6 +68,25 @@ fn worth_told(outcome: Outcome<MapData, Kpa>) -> (Kpa, TermSize) {
     }
 }
 
+// A Make of a node without kids, whose worth is 350.
+fn make_of_350() -> Call<MapData> {
+    Call::Make(Plan {
+        slot: 1,
+        kids: PerKid::all(0),
+        given: MapData {
+            code: 0,
+            number: 350,
+        },
+    })
+}
+
+const WALK: Walk = Walk {
+    slot: 1,
+    range: 0,
+    gear: 3,
+    temperature: 90,
+};
+
 // A Make of one task is interrupted one turn before its end, and its node is walked and handed on.
 #[test]
 fn two_parties_take_turns(rt: HostRuntime) -> Result<(), Fail> {
@@ -78,17 +97,8 @@ fn two_parties_take_turns(rt: HostRuntime) -> Result<(), Fail> {
         Stride::new(2, 1)?,
         Stride::new(2, 1)?,
     )?;
-    let number = MapData {
-        code: 0,
-        number: 350,
-    };
     let mut data = [MapData { code: 0, number: 0 }; 2];
-    let plan = Plan {
-        slot: 1,
-        kids: PerKid::all(0),
-        given: number,
-    };
-    assert_eq!(rt; outcome_number(&store.begin(1, Call::Make(plan), &data)), 0);
+    assert_eq!(rt; outcome_number(&store.begin(1, make_of_350(), &data)), 0);
     for _ in 0..13 {
         assert_eq!(rt; outcome_number(&store.turn(1, &mut data)), 100);
     }
@@ -100,14 +110,8 @@ fn two_parties_take_turns(rt: HostRuntime) -> Result<(), Fail> {
         marks: &mut [true; 2],
         worths: &mut [0; 2],
     };
-    let walk = Walk {
-        slot: 1,
-        range: 0,
-        gear: 3,
-        temperature: 90,
-    };
     assert_eq!(rt;
-        outcome_number(&store.begin_walk(1, walk, &data, &mut notes)),
+        outcome_number(&store.begin_walk(1, WALK, &data, &mut notes)),
         0
     );
     for _ in 0..3 {
