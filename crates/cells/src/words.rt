@@ -14,7 +14,8 @@ use model::words::{Address, Word};
 use orders::limits::Party;
 
 impl<D: Copy> Cells<D> {
-    fn words(&self, n: Node) -> Option<&NodeWords>
+    // The node's words, if there is such a node.
+    pub fn words(&self, n: Node) -> Option<&NodeWords>
         ensures { MatchOption result (between 1 (nodes_of self.now) n ≡ false) (λ x. (between 1 (nodes_of self.now) n ≡ true) × (x.now ≡ words_of self.now n)) }
     {
         entry_at(&self.nodes, n)

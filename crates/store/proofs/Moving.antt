@@ -121,7 +121,6 @@ refused_walk kind node_order party_order p w before lists e f told = record {
   worths = refl;
   further = λ n h. (refl, refl);
   sizes = record { parties = refl; nodes = refl };
-  same_lists = (refl, refl, refl, refl);
 }
 
 -- systems with equal parts

@@ -16,7 +16,7 @@ use Rattle.model.specs.Runs.{Moves}
 use Rattle.model.specs.Setting.{setting_for}
 use Rattle.model.specs.Walks.{Notes}
 use Rattle.walks.specs.declared.notes.Notes.{Notes as Lists}
-use Rattle.walks.specs.Notes.{SameLists, notes_of}
+use Rattle.walks.specs.Notes.{notes_of}
 use Rattle.cells.specs.declared.records.Cells.{Cells}
 use Rattle.cells.specs.View.{SameSizes, parties_of, nodes_of}
 use Rattle.store.specs.Given.{system_of}
@@ -71,11 +71,9 @@ module _ {K D W A B : Type 0} (kind : KindMeaning K D W) (node_order : OrderMean
     pub worths : lists'.worths.now ≡ lists.worths.now
     pub further : FurtherStay kind (nodes_of before.cells) lists lists'
     pub sizes : SameSizes before.cells after.cells
-    pub same_lists : SameLists lists lists'
 
   -- the Turn of a walk
   pub record TurnsWalk (p : ℕ) (o : Outcome D W) (before after : Shown D A B) (lists lists' : Lists W) : Type 0 where
     pub moves : (notes : ℕ → Notes W) → MovesBy (WalkTurns p (walk_lengths before lists)) o before after (with_lists notes p before lists) (with_lists notes p before lists')
     pub further : FurtherStay kind (nodes_of before.cells) lists lists'
     pub sizes : SameSizes before.cells after.cells
-    pub same_lists : SameLists lists lists'

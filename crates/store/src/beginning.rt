@@ -25,7 +25,7 @@ impl<K: Kind, U: Order + Drop, V: Order + Drop> Store<K, U, V> {
     ghost use Rattle.store.specs.Shown.{shown};
 
     // The party begins the call.
-    pub(crate) fn begin(
+    pub fn begin(
         &mut self,
         party: Party,
         call: Call<K::Data>,

@@ -12,3 +12,4 @@ mod taking;
 mod tests;
 mod turning;
 mod walking;
+mod words;

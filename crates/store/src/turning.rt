@@ -14,7 +14,7 @@ impl<K: Kind, U: Order + Drop, V: Order + Drop> Store<K, U, V> {
     ghost use Rattle.store.specs.Shown.{shown};
 
     // The next step of the party's call. A Make's step that writes its node's data changes one entry of the list.
-    pub(crate) fn turn(&mut self, party: Party, data: &mut [K::Data]) -> Outcome<K::Data, K::Worth>
+    pub fn turn(&mut self, party: Party, data: &mut [K::Data]) -> Outcome<K::Data, K::Worth>
         ensures { TurnsCall K.Kind U.Order V.Order party result (shown self.old «data».old) (shown self.new «data».new) }
     {
         let running = self.cells.running(party);

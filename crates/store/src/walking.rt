@@ -1,4 +1,5 @@
 ghost use Rattle.std.specs.Prelude.{◌≡◌, length};
+ghost use Rattle.walks.specs.Notes.{SameLists};
 
 use crate::settling::settle;
 use crate::store::Store;
@@ -18,14 +19,15 @@ impl<K: Kind, U: Order + Drop, V: Order + Drop> Store<K, U, V> {
     ghost use Rattle.store.specs.Shown.{shown};
 
     // The party begins a walk, with marks and worths of its own.
-    pub(crate) fn begin_walk(
+    pub fn begin_walk(
         &mut self,
         party: Party,
         walk: Walk,
         data: &[K::Data],
         notes: &mut Notes<'_, K::Worth>,
     ) -> Outcome<K::Data, K::Worth>
-        ensures { BeginsWalk K.Kind U.Order V.Order party walk result (shown self.old «data».now) (shown self.new «data».now) notes.old notes.new }
+        ensures begins { BeginsWalk K.Kind U.Order V.Order party walk result (shown self.old «data».now) (shown self.new «data».now) notes.old notes.new }
+        ensures same_lists { SameLists notes.old notes.new }
     {
         let sizes = self.cells.sizes();
         let lengths = lengths_of(data, notes);
@@ -37,13 +39,14 @@ impl<K: Kind, U: Order + Drop, V: Order + Drop> Store<K, U, V> {
     }
 
     // The next step of the party's walk. Marks and worths may hold anything; only those of the store's nodes are looked at.
-    pub(crate) fn turn_walk(
+    pub fn turn_walk(
         &mut self,
         party: Party,
         data: &mut [K::Data],
         notes: &mut Notes<'_, K::Worth>,
     ) -> Outcome<K::Data, K::Worth>
-        ensures { TurnsWalk K.Kind U.Order V.Order party result (shown self.old «data».old) (shown self.new «data».new) notes.old notes.new }
+        ensures turns { TurnsWalk K.Kind U.Order V.Order party result (shown self.old «data».old) (shown self.new «data».new) notes.old notes.new }
+        ensures same_lists { SameLists notes.old notes.new }
     {
         let running = self.cells.running(party);
         let lengths = lengths_of(data, notes);

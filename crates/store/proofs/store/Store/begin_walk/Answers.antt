@@ -24,19 +24,19 @@ fault g c =
     let own = MatchOption-at_some _ _ c.in_ok-record.record c.in_ok-record.ensures.ok_part c.record.ensures in
     fault_is g.K.Kind.suits c.args.self.now.cells c.args.party (AsksWalk c.args.walk) c.lengths_of-lengths.ensures c.sizes-sizes.ensures own.1
 
-pub returns-in_err-record : goal.returns-in_err-record
-returns-in_err-record g c =
+pub returns-in_err-record-clause-begins : goal.returns-in_err-record-clause-begins
+returns-in_err-record-clause-begins g c =
     let none : c.record.result ≡ None = grind arith in
     let e = err_from_is_err_and c.from_residual.result c.from_residual.ensures.1 in
     let told : c.from_residual.result ≡ Err NoSuchParty = grind arith in
     refused_walk g.K.Kind g.U.Order g.V.Order c.args.party c.args.walk (shown c.args.self.now c.args.data.now) c.args.notes.now NoSuchParty
     (no_party_fault g.K.Kind.suits c.args.self.now.cells c.args.party (AsksWalk c.args.walk) _ (MatchOption-at_none _ _ none c.record.ensures)) told
 
-pub returns-in_err-situation : goal.returns-in_err-situation
-returns-in_err-situation g c =
+pub returns-in_err-situation-clause-begins : goal.returns-in_err-situation-clause-begins
+returns-in_err-situation-clause-begins g c =
     let told = err_from_is_err_and c.from_residual-in_err-situation.result c.from_residual-in_err-situation.ensures.1 in
     refused_walk g.K.Kind g.U.Order g.V.Order c.args.party c.args.walk (shown c.args.self.now c.args.data.now) c.args.notes.now c.in_err-situation.field-0.0
-    (fault g (goal.at.returns-in_err-situation g c).In_ok-record ∙ c.in_err-situation.ensures.fault) (told.1 ∙ ap Err told.2)
+    (fault g (goal.at.returns-in_err-situation-clause-begins g c).In_ok-record ∙ c.in_err-situation.ensures.fault) (told.1 ∙ ap Err told.2)
 
 pub invariant_of-self : goal.invariant_of-self
 invariant_of-self g c =
@@ -47,11 +47,11 @@ invariant_of-self g c =
     still_a_store s c.start_walk.ensures.becomes.sizes (starts suits s.cells c.args.party (AsksWalk w) _ none c.start_walk.ensures.becomes.view)
     (λ S. sound_started_walk suits _ _ _ S c.args.party w _ c.in_ok-situation.situation none)
 
-pub returns : goal.returns
-returns g c =
+pub returns-clause-begins : goal.returns-clause-begins
+returns-clause-begins g c =
     let k = g.K.Kind in
     let M : ℕ = nodes_of c.args.self.now.cells in
-    let none = fault g (goal.at.returns g c).In_ok-record ∙ c.in_ok-situation.ensures.fault in
+    let none = fault g (goal.at.returns-clause-begins g c).In_ok-record ∙ c.in_ok-situation.ensures.fault in
     let later = c.clear.new.self in
     let m : c.nodes.result ≡ M = c.nodes.ensures in
     record {
@@ -61,5 +61,4 @@ returns g c =
       worths = c.clear.ensures.worths;
       further = λ n h. (c.clear.ensures.further n (omega arith), ap (λ ws. nth k.none ws n) c.clear.ensures.worths);
       sizes = c.start_walk.ensures.becomes.sizes;
-      same_lists = c.clear.ensures.lists;
     }

@@ -32,15 +32,14 @@ settled g c notes =
     settled_step g.K.Kind g.U.Order g.V.Order (parties_of s.cells) M notes refl (c.take_step.ensures.taken (upd notes c.args.party (noted_on g.K.Kind M c.args.notes.now))) c.in-Settles.is
     (c.nodes-nodes.ensures ∙ c.take_step.ensures.sizes.nodes) c.settle.ensures.settled
 
-pub returns-in_err-check_turn_walk : goal.returns-in_err-check_turn_walk
-returns-in_err-check_turn_walk g c =
+pub returns-in_err-check_turn_walk-clause-turns : goal.returns-in_err-check_turn_walk-clause-turns
+returns-in_err-check_turn_walk-clause-turns g c =
     let told = err_from_is_err_and c.from_residual.result c.from_residual.ensures.1 in
     let fault = same_walk_fault c.args.party c.sizes.ensures c.lengths_of-lengths.ensures c.running-running.ensures ∙ c.in_err-check_turn_walk.ensures in
     record {
       moves = λ notes. walk_turn_refused c.in_err-check_turn_walk.field-0.0 fault (told.1 ∙ ap Err told.2) refl;
       further = λ n h. (refl, refl);
       sizes = record { parties = refl; nodes = refl };
-      same_lists = (refl, refl, refl, refl);
     }
 
 pub settle-requires-clause-node : goal.settle-requires-clause-node
@@ -54,22 +53,20 @@ invariant_of-self g c =
     still_a_store c.args.self.now (sizes_twice c.take_step.ensures.sizes c.settle.ensures.sizes) refl
     (walk_keeps_sound _ (passed g at.After-take_step) (settled g at.After-settle (no_notes g.K.Kind.none)))
 
-pub returns-in-Tells : goal.returns-in-Tells
-returns-in-Tells g c = record {
-  moves = λ notes. walk_turn (passed g (goal.at.returns-in-Tells g c).After-take_step)
+pub returns-in-Tells-clause-turns : goal.returns-in-Tells-clause-turns
+returns-in-Tells-clause-turns g c = record {
+  moves = λ notes. walk_turn (passed g (goal.at.returns-in-Tells-clause-turns g c).After-take_step)
       (tells_at_turn (c.take_step.ensures.taken (with_lists g.K.Kind g.U.Order g.V.Order notes c.args.party (shown c.args.self.now c.args.data.now) c.args.notes.now)) c.in-Tells.is refl);
   further = λ n h. (refl, refl);
   sizes = c.take_step.ensures.sizes;
-  same_lists = (refl, refl, refl, refl);
 }
 
-pub returns-in-Settles : goal.returns-in-Settles
-returns-in-Settles g c =
-    let at = goal.at.returns-in-Settles g c in
+pub returns-in-Settles-clause-turns : goal.returns-in-Settles-clause-turns
+returns-in-Settles-clause-turns g c =
+    let at = goal.at.returns-in-Settles-clause-turns g c in
     let sizes : c.nodes-nodes.result ≡ nodes_of c.args.self.now.cells = c.nodes-nodes.ensures ∙ c.take_step.ensures.sizes.nodes in
     record {
       moves = λ notes. walk_turn (passed g at.After-take_step) (settled g at.After-settle notes);
       further = λ n h. c.settle.ensures.further n (let e = sizes in omega arith);
       sizes = sizes_twice c.take_step.ensures.sizes c.settle.ensures.sizes;
-      same_lists = c.settle.ensures.same_lists;
     }

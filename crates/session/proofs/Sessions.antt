@@ -1,0 +1,94 @@
+-- From a command over one party's lists to a move of the whole session.
+use Rattle.std.proofs.Common.{◌≡◌, ℕ, ◌-◌, ◌<◌, ◌≤◌, Bool, true, false, not, ◌||◌, ltb, List, [], ◌∷◌, Some, length, map, set, get_or, sym, refl, ap, ◌∙◌, subst, arith}
+use Rattle.std.specs.Prelude.{All, vec_items}
+use Rattle.std.specs.Vec.{with_items}
+use Rattle.std.proofs.lemmas.List.{map-set, length-map, get_or-map}
+use Rattle.std.proofs.lemmas.List.Elements.{All-set}
+use Rattle.refusals.specs.declared.Refusal.TheVariants.{NoSuchParty, ShortList, NothingToTurn}
+use Rattle.kinds.specs.declared.kind.Kind.{Ghosts as KindMeaning}
+use Rattle.orders.specs.declared.order.Order.{Ghosts as OrderMeaning}
+use Rattle.model.specs.declared.calls.Event.{Event}
+use Rattle.model.specs.declared.calls.Lengths.{Lengths}
+use Rattle.model.specs.Checks.{first_fault, walk_turn_fault, is_walking}
+use Rattle.cells.specs.declared.records.Cells.{Cells}
+use Rattle.model.specs.Types.{Outcome}
+use Rattle.model.specs.Entries.{nth}
+use Rattle.model.specs.Fun.{upd}
+use Rattle.model.specs.Walks.{Notes}
+use Rattle.model.specs.Runs.{System, Moves}
+use Rattle.model.specs.Setting.{setting_for, Setting}
+use Rattle.model.specs.Steps.{between}
+use Rattle.model.proofs.Between.{within}
+use Rattle.model.proofs.EntryLemmas.{nth_set, nth_read}
+use Rattle.cells.proofs.Views.{upd_own}
+use Rattle.cells.specs.View.{nodes_of, parties_of, view_of, SameSizes}
+use Rattle.store.specs.Moved.{Shown}
+use Rattle.session.specs.declared.lists.WalkLists.{WalkLists}
+use Rattle.session.specs.Lent.{Carries, CarriesWalk, noted_in, nothing_noted, all_noted}
+use Rattle.session.specs.Lists.{AnEntryEach}
+use Rattle.session.proofs.Lent.{sys}
+
+-- what is no party's number
+pub no_party : (N p : ℕ) → (b : Bool) → between 1 N p ≡ b → (1 ≤ p → p ≤ N → ⊥) → b ≡ false
+no_party N p false e h = refl
+no_party N p true e h = let u = within 1 N p e in absurd (h u.0 u.1)
+
+-- a walk's Turn of what is no party is refused so, whatever else is wrong
+pub no_party_to_turn : {D : Type 0} (c : Cells D) (p : ℕ) (l : Lengths) → between 1 (parties_of c) p ≡ false → walk_turn_fault (parties_of c) (nodes_of c) p l ((view_of c).run p) ≡ Some NoSuchParty
+no_party_to_turn c p l e =
+    ap (λ b. first_fault ((not b, NoSuchParty) ∷ (ltb l.entries (nodes_of c) || (ltb l.marks (nodes_of c) || ltb l.worths (nodes_of c)), ShortList) ∷ (not (is_walking ((view_of c).run p)), NothingToTurn) ∷ [])) e
+
+-- the lists of one party's walks, with other entries
+abbrev pub rewritten : {W : Type 0} → WalkLists W → List Bool → List W → WalkLists W
+rewritten own marks worths = record { marks = with_items own.marks marks; worths = with_items own.worths worths }
+
+-- the lists at a place have an entry for each node
+pub entries_at : {W : Type 0} {M : ℕ} (walks : List (WalkLists W)) (i : ℕ) (own : WalkLists W) → own ≡ get_or walks i own → i < length walks → All (AnEntryEach M) walks → AnEntryEach M own
+entries_at {M = M} walks i own is low h = subst (AnEntryEach M) (sym is) (h i own low)
+
+pub still_noted : {W : Type 0} {M M' : ℕ} → M' ≡ M → (walks : List (WalkLists W)) (i : ℕ) (own : WalkLists W) (marks : List Bool) (worths : List W) → own ≡ get_or walks i own → i < length walks
+    → All (AnEntryEach M) walks → All (AnEntryEach M') (set walks i (rewritten own marks worths))
+still_noted {M = M} e walks i own marks worths is low h =
+    let u = entries_at walks i own is low h in
+    subst (λ m. All (AnEntryEach m) (set walks i (rewritten own marks worths))) (sym e) (All-set (AnEntryEach M) walks i (rewritten own marks worths) (record { marks = u.marks; worths = u.worths }) h)
+
+module _ {K D W A B : Type 0} (kind : KindMeaning K D W) (node_order : OrderMeaning A) (party_order : OrderMeaning B) where
+  module _ (before after : Shown D A B) (walks : List (WalkLists W)) where
+    abbrev N : ℕ
+    N = parties_of before.cells
+
+    abbrev M : ℕ
+    M = nodes_of before.cells
+
+    abbrev X : Setting D W A B
+    X = setting_for kind node_order party_order N M
+
+    abbrev nothing : Notes W
+    nothing = nothing_noted kind
+
+    -- the lists hold the same in as many nodes
+    same_size : {e : Event D} {o : Outcome D W} (F : System D W A B) (ws : List (WalkLists W)) → SameSizes before.cells after.cells
+        → Moves X F e o (sys kind node_order party_order after (all_noted kind M ws)) → Moves X F e o (sys kind node_order party_order after (all_noted kind (nodes_of after.cells) ws))
+    same_size {e} {o} F ws z m = subst (λ n. Moves X F e o (sys kind node_order party_order after (all_noted kind n ws))) (sym z.nodes) m
+
+    -- a command that leaves all walks' lists
+    pub leaves_walks : {e : Event D} {o : Outcome D W} → ((notes : ℕ → Notes W) → Carries kind node_order party_order e o before after notes notes)
+        → Moves X (sys kind node_order party_order before (all_noted kind M walks)) e o (sys kind node_order party_order after (all_noted kind (nodes_of after.cells) walks))
+    leaves_walks h = let c = h (all_noted kind M walks) in same_size (sys kind node_order party_order before (all_noted kind M walks)) walks c.sizes c.moves
+
+    -- a command that changes one party's
+    pub changes_own : {e : Event D} {o : Outcome D W} (p : ℕ) (own own' : WalkLists W) → 1 ≤ p → p ≤ length walks → own ≡ get_or walks (p - 1) own
+        → CarriesWalk kind node_order party_order p e o before after (vec_items own.marks) (vec_items own'.marks) (vec_items own.worths) (vec_items own'.worths)
+        → Moves X (sys kind node_order party_order before (all_noted kind M walks)) e o (sys kind node_order party_order after (all_noted kind (nodes_of after.cells) (set walks (p - 1) own')))
+    changes_own {e} {o} p own own' low high is h =
+        let all = all_noted kind M walks in
+        let note = noted_in kind M in
+        let at : nth nothing (map note walks) p ≡ note own =
+        nth_read nothing (map note walks) p low ∙ get_or-map note walks (p - 1) own nothing (omega arith) ∙ ap note (sym is) in
+        let c = h.carries all in
+        let first : upd all p (note own) ≡ all = upd_own all p (note own) (sym at) in
+        let then : upd all p (note own') ≡ all_noted kind M (set walks (p - 1) own') =
+        sym (nth_set nothing (map note walks) p (note own') low (let l = length-map walks note in omega (arith, l))) ∙ ap (nth nothing) (sym (map-set note walks (p - 1) own')) in
+        same_size (sys kind node_order party_order before all) (set walks (p - 1) own') c.sizes
+        (subst (λ n. Moves X (sys kind node_order party_order before n) e o (sys kind node_order party_order after (all_noted kind M (set walks (p - 1) own')))) first
+        (subst (λ n. Moves X (sys kind node_order party_order before (upd all p (note own))) e o (sys kind node_order party_order after n)) then c.moves))

@@ -1,0 +1,4 @@
+pub mod Lists
+pub mod Lent
+pub mod Sessions
+pub mod Performed
