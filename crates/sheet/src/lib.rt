@@ -1,0 +1,4 @@
+// The syntax of turn sheets, as text: what stands on a line of a sheet, and how a reply is written out.
+#![tactic(auto)]
+
+pub mod letters;
