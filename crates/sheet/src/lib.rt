@@ -2,3 +2,4 @@
 #![tactic(auto)]
 
 pub mod letters;
+pub mod values;
