@@ -1,5 +1,6 @@
 // The syntax of turn sheets, as text: what stands on a line of a sheet, and how a reply is written out.
 #![tactic(auto)]
 
+pub mod headings;
 pub mod letters;
 pub mod values;
