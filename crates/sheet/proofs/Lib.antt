@@ -1,1 +1,2 @@
 pub mod DigitCounts
+pub mod FieldsOfTexts

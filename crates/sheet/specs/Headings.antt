@@ -1,5 +1,5 @@
 -- The names line of a sheet, which says what the sheet is of.
-use Rattle.std.specs.Prelude.{◌≡◌, ℕ, ◌<◌, ◌≤◌, cond, Bool, List, [], ◌∷◌, ◌++◌, length, codes, Some, None, Option, nat_le, take, drop}
+use Rattle.std.specs.Prelude.{ℕ, cond, List, [], ◌∷◌, ◌++◌, length, codes, Some, None, Option, nat_le, take, drop}
 use Rattle.std.specs.Str.{bytes_eq}
 use Rattle.sheet.specs.declared.headings.SheetOf.{SheetOf}
 use Rattle.sheet.specs.declared.headings.SheetOf.TheVariants.{Maps, Traces}

@@ -1,3 +1,4 @@
+pub mod Fields
 pub mod Headings
 pub mod Letters
 pub mod Values

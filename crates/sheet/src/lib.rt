@@ -1,6 +1,8 @@
 // The syntax of turn sheets, as text: what stands on a line of a sheet, and how a reply is written out.
 #![tactic(auto)]
 
+mod cuts;
 pub mod headings;
 pub mod letters;
+pub mod reader;
 pub mod values;
