@@ -5,4 +5,5 @@ mod cuts;
 pub mod headings;
 pub mod letters;
 pub mod reader;
+pub mod replies;
 pub mod values;
