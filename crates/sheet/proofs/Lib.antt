@@ -1,2 +1,3 @@
 pub mod DigitCounts
 pub mod FieldsOfTexts
+pub mod LinesOfTexts

@@ -3,3 +3,5 @@ pub mod Headings
 pub mod Letters
 pub mod Values
 pub mod Replies
+pub mod Lines
+pub mod Columns

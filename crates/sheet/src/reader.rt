@@ -1,8 +1,12 @@
 ghost use Rattle.std.specs.Prelude.{◌≡◌, ◌↔◌, ◌+◌, ◌^◌, ◌<◌, List, ℕ, [], IfNone, IfSome, IsNone, length};
 ghost use Rattle.sheet.specs.Fields.{IsField, joined, lines_ended, pieces_of};
+ghost use Rattle.std.specs.List.{flat_map, join_with_byte};
+ghost use Rattle.sheet.specs.Lines.{IsLine, fields_of, line_text, lines_of};
 ghost use Rattle.sheet.specs.declared.cuts.Ending.{Ending};
 
+use crate::columns::Columns;
 use crate::cuts::Cut;
+use crate::lines::Line;
 
 // A field, as a part of the sheet, and the number of the line on which it stands.
 #[derive(Clone, Copy)]
@@ -41,7 +45,7 @@ impl<'a> Reader<'a> {
             × IsField self.old.rest.now field.part.now ending self.new.rest.now
             × (self.new.line ≡ self.old.line + lines_ended ending)) }
         ensures line { IfSome result (λ field. field.line ≡ self.old.line) }
-        // No byte of a text is lost, whatever is read of it.
+        // No byte is lost when a text is taken as pieces.
         ensures whole { (text : List ℕ) → joined (pieces_of text) ≡ text }
     {
         if self.rest.is_empty() {
@@ -54,6 +58,36 @@ impl<'a> Reader<'a> {
         Some(Field {
             part: cut.part,
             line,
+        })
+    }
+
+    // The next line, read field by field up to its end and no further.
+    pub fn next_line(&mut self) -> Option<Line>
+        ensures none { IsNone result ↔ (self.old.rest.now ≡ []) }
+        ensures unchanged { IfNone result ((self.new.rest.now ≡ self.old.rest.now) × (self.new.line ≡ self.old.line)) }
+
+        ensures line { IfSome result (λ line. IsLine (lines_of self.old.rest.now) line.values (lines_of self.new.rest.now)) }
+        ensures number { IfSome result (λ line. line.number ≡ self.old.line) }
+        ensures counted { IfSome result (λ line. self.new.line ≡ self.old.line + 1) }
+        // No byte is lost when a text is taken as lines, or a line as fields.
+        ensures whole { (text : List ℕ) → (flat_map line_text (lines_of text) ≡ text) × (join_with_byte 32 (fields_of text) ≡ text) }
+    {
+        if self.rest.is_empty() {
+            return None;
+        }
+        let number = self.line;
+        let mut columns = Columns::new();
+        while let Some(field) = self.next_field() {
+            columns.take(field.part);
+            if self.line != number {
+                let values = columns.values();
+                return Some(Line { number, values });
+            }
+        }
+        self.line = number + 1;
+        Some(Line {
+            number,
+            values: None,
         })
     }
 }

@@ -1,0 +1,140 @@
+-- A line is what its fields, taken one after another, make.
+use Rattle.std.proofs.Common.{◌≡◌, ◌≢◌, ℕ, cond, All, Bool, true, false, List, [], ◌∷◌, ◌++◌, ◌==◌, Option, None, append-nil, refl, ap, sym, ◌∙◌, arith}
+use Rattle.std.specs.List.{flat_map, join_with_byte}
+use Rattle.std.proofs.lemmas.Bool.{ne_eqb}
+use Rattle.std.proofs.lemmas.Bool.Decides.{Decides-eqb}
+use Rattle.std.proofs.lemmas.List.Elements.{All-head, All-tail, All-weaker}
+use Rattle.std.proofs.lemmas.List.Splits.{join_with_byte-slice_split, slice_split_none, slice_split_at}
+use Rattle.sheet.specs.declared.cuts.Ending.{Ending}
+use Rattle.sheet.specs.declared.cuts.Ending.TheVariants.{Space, LineEnd, SheetEnd}
+use Rattle.sheet.specs.declared.columns.Columns.{Columns}
+use Rattle.sheet.specs.declared.columns.Place.TheVariants.{BehindEnd}
+use Rattle.sheet.specs.declared.lines.Values.{Values}
+use Rattle.sheet.specs.Columns.{ended_at, no_columns, taken_at, values_taken, with_part}
+use Rattle.sheet.specs.Fields.{IsCut, IsInside, lines_ended}
+use Rattle.sheet.specs.Lines.{TextLine, IsLine, fields_of, line_text, lines_of, onto_first_line, values_in}
+
+-- all of these parts taken
+abbrev pub columns_after : Columns → List (List ℕ) → Columns
+columns_after columns [] = columns
+columns_after columns (part ∷ parts) = columns_after (with_part columns part) parts
+
+-- the values of the first of these lines, behind the columns that were taken before it, and the lines that are left
+abbrev pub outcome : Columns → List TextLine → Option Values × List TextLine
+outcome columns [] = (None, [])
+outcome columns (line ∷ lines) = (cond line.1 (values_taken (columns_after columns (fields_of line.0))) None, lines)
+
+-- a field too many stays one
+taken_too_many : (columns : Columns) (parts : List (List ℕ)) → columns.next ≡ BehindEnd → values_taken (columns_after columns parts) ≡ None
+taken_too_many columns [] e = ap (λ p. ended_at p columns) e
+taken_too_many columns (part ∷ parts) e =
+    ap (λ p. values_taken (columns_after (taken_at p columns part) parts)) e ∙ taken_too_many columns parts e
+
+pub values_taken-all : (fields : List (List ℕ)) → values_taken (columns_after no_columns fields) ≡ values_in fields
+values_taken-all [] = refl
+values_taken-all (p ∷ []) = refl
+values_taken-all (p ∷ c ∷ []) = refl
+values_taken-all (p ∷ c ∷ a ∷ []) = refl
+values_taken-all (p ∷ c ∷ a ∷ x ∷ []) = refl
+values_taken-all (p ∷ c ∷ a ∷ x ∷ y ∷ []) = refl
+values_taken-all (p ∷ c ∷ a ∷ x ∷ y ∷ d ∷ []) = refl
+values_taken-all (p ∷ c ∷ a ∷ x ∷ y ∷ d ∷ e ∷ []) = refl
+values_taken-all (p ∷ c ∷ a ∷ x ∷ y ∷ d ∷ e ∷ f ∷ []) = refl
+values_taken-all (p ∷ c ∷ a ∷ x ∷ y ∷ d ∷ e ∷ f ∷ more ∷ fields) = taken_too_many _ fields refl
+
+lines_of-cons : (b : ℕ) (bs : List ℕ) → IsInside b → lines_of (b ∷ bs) ≡ onto_first_line b (lines_of bs)
+lines_of-cons b bs inside = rw (ne_eqb b 10 inside.1) refl
+
+-- bytes in front of the first line
+abbrev onto_line : List ℕ → List TextLine → List TextLine
+onto_line [] lines = lines
+onto_line (b ∷ bs) lines = onto_first_line b (onto_line bs lines)
+
+lines_of-append : (part after : List ℕ) → All IsInside part → lines_of (part ++ after) ≡ onto_line part (lines_of after)
+lines_of-append [] after plain = refl
+lines_of-append (b ∷ bs) after plain =
+    lines_of-cons b (bs ++ after) (All-head IsInside b bs plain) ∙ ap (onto_first_line b) (lines_of-append bs after (All-tail IsInside b bs plain))
+
+onto_line-some : (part : List ℕ) (line : TextLine) (lines : List TextLine) → onto_line part (line ∷ lines) ≡ (part ++ line.0, line.1) ∷ lines
+onto_line-some [] line lines = refl
+onto_line-some (b ∷ bs) line lines = ap (onto_first_line b) (onto_line-some bs line lines)
+
+onto_line-none : (b : ℕ) (bs : List ℕ) → onto_line (b ∷ bs) [] ≡ (b ∷ bs, false) ∷ []
+onto_line-none b [] = refl
+onto_line-none b (c ∷ cs) = ap (onto_first_line b) (onto_line-none c cs)
+
+-- a part is one field, and so is the part before a space
+fields_of-part : (part : List ℕ) → All IsInside part → fields_of part ≡ part ∷ []
+fields_of-part part plain = slice_split_none _ part (All-weaker IsInside _ (λ b inside. ne_eqb b 32 inside.0) part plain)
+
+fields_of-space : (part bs : List ℕ) → All IsInside part → fields_of (part ++ 32 ∷ bs) ≡ part ∷ fields_of bs
+fields_of-space part bs plain = slice_split_at _ part 32 bs (All-weaker IsInside _ (λ b inside. ne_eqb b 32 inside.0) part plain) refl
+
+outcome-space : (columns : Columns) (part : List ℕ) (lines : List TextLine) → All IsInside part → outcome columns (onto_line part (onto_first_line 32 lines)) ≡ outcome (with_part columns part) lines
+outcome-space columns part [] plain = ap (outcome columns) (onto_line-some part (32 ∷ [], false) [])
+outcome-space columns part (line ∷ lines) plain =
+    ap (outcome columns) (onto_line-some part (32 ∷ line.0, line.1) lines)
+    ∙ ap (λ (fields : List (List ℕ)). (cond line.1 (values_taken (columns_after columns fields)) None, lines)) (fields_of-space part line.0 plain)
+
+outcome-unended : (columns : Columns) (part : List ℕ) → outcome columns (onto_line part []) ≡ (None, [])
+outcome-unended columns [] = refl
+outcome-unended columns (b ∷ bs) = ap (outcome columns) (onto_line-none b bs)
+
+-- a field behind which the line goes on
+pub outcome-goes_on : (columns : Columns) (text part : List ℕ) (ending : Ending) (after : List ℕ) → IsCut text part ending after → lines_ended ending ≡ 0 → outcome columns (lines_of text) ≡ outcome (with_part columns part) (lines_of after)
+outcome-goes_on columns text part Space after cut same =
+    ap (λ t. outcome columns (lines_of t)) cut.whole
+    ∙ ap (outcome columns) (lines_of-append part (32 ∷ after) cut.plain)
+    ∙ outcome-space columns part (lines_of after) cut.plain
+outcome-goes_on columns text part LineEnd after cut same = absurd (omega arith)
+outcome-goes_on columns text part SheetEnd after cut same =
+    let nothing : after ≡ [] = cut.last refl in
+    ap (λ t. outcome columns (lines_of t)) cut.whole
+    ∙ ap (outcome columns) (lines_of-append part after cut.plain)
+    ∙ ap (λ (a : List ℕ). outcome columns (onto_line part (lines_of a))) nothing
+    ∙ outcome-unended columns part
+    ∙ ap (λ (a : List ℕ). outcome (with_part columns part) (lines_of a)) (sym nothing)
+
+-- the last field of a line
+pub outcome-ends : (columns : Columns) (text part : List ℕ) (ending : Ending) (after : List ℕ) → IsCut text part ending after → lines_ended ending ≢ 0 → outcome columns (lines_of text) ≡ (values_taken (with_part columns part), lines_of after)
+outcome-ends columns text part Space after cut ends = absurd (ends refl)
+outcome-ends columns text part SheetEnd after cut ends = absurd (ends refl)
+outcome-ends columns text part LineEnd after cut ends =
+    ap (λ t. outcome columns (lines_of t)) cut.whole
+    ∙ ap (outcome columns) (lines_of-append part (10 ∷ after) cut.plain ∙ onto_line-some part ([], true) (lines_of after))
+    ∙ ap (λ (l : List ℕ). (values_taken (columns_after columns (fields_of l)), lines_of after)) (append-nil part)
+    ∙ ap (λ (fields : List (List ℕ)). (values_taken (columns_after columns fields), lines_of after)) (fields_of-part part cut.plain)
+
+line_of_outcome : (lines : List TextLine) (values : Option Values) (left : List TextLine) → lines ≢ [] → outcome no_columns lines ≡ (values, left) → IsLine lines values left
+line_of_outcome [] values left some e = absurd (some refl)
+line_of_outcome (line ∷ lines) values left some e = record {
+  line = line.0;
+  ended = line.1;
+  first = ap (λ (o : Option Values × List TextLine). line ∷ o.1) e;
+  read = sym (ap (λ (o : Option Values × List TextLine). o.0) e) ∙ ap (λ v. cond line.1 v None) (values_taken-all (fields_of line.0));
+}
+
+lines_of-some : (b : ℕ) (bs : List ℕ) → lines_of (b ∷ bs) ≢ []
+lines_of-some b bs = some_line b (lines_of bs) (b == 10)
+  where
+    some_line : (b : ℕ) (lines : List TextLine) (ends : Bool) → cond ends (([], true) ∷ lines) (onto_first_line b lines) ≢ []
+    some_line b lines true e = cc
+    some_line b [] false e = cc
+    some_line b (line ∷ lines) false e = cc
+
+-- what was read is the text's first line
+pub line_read : (text : List ℕ) (values : Option Values) (left : List TextLine) → text ≢ [] → outcome no_columns (lines_of text) ≡ (values, left) → IsLine (lines_of text) values left
+line_read [] values left some e = absurd (some refl)
+line_read (b ∷ bs) values left some e = line_of_outcome (lines_of (b ∷ bs)) values left (lines_of-some b bs) e
+
+lines-more : (b : ℕ) (bs : List ℕ) (lines : List TextLine) (ends : Bool) → (ends ≡ true → b ≡ 10) → flat_map line_text lines ≡ bs → flat_map line_text (cond ends (([], true) ∷ lines) (onto_first_line b lines)) ≡ b ∷ bs
+lines-more b bs lines true is_end e = ap (λ n. n ∷ flat_map line_text lines) (sym (is_end refl)) ∙ ap (λ l. b ∷ l) e
+lines-more b bs [] false is_end e = ap (λ l. b ∷ l) e
+lines-more b bs (line ∷ lines) false is_end e = ap (λ l. b ∷ l) e
+
+text-lines_of : (text : List ℕ) → flat_map line_text (lines_of text) ≡ text
+text-lines_of [] = refl
+text-lines_of (b ∷ bs) = lines-more b bs (lines_of bs) (b == 10) (λ h. (Decides-eqb b 10).0 h) (text-lines_of bs)
+
+pub whole_text : (text : List ℕ) → (flat_map line_text (lines_of text) ≡ text) × (join_with_byte 32 (fields_of text) ≡ text)
+whole_text text = (text-lines_of text, join_with_byte-slice_split 32 text)

@@ -1,0 +1,62 @@
+-- The lines of a text, and the values that stand on a line.
+use Rattle.std.specs.Prelude.{◌≡◌, ℕ, ℤ, cond, Bool, true, false, List, [], ◌∷◌, ◌++◌, Option, Some, None, ◌==◌}
+use Rattle.std.specs.List.{slice_split}
+use Rattle.sheet.specs.Letters.{letter_of}
+use Rattle.sheet.specs.Values.{value_of}
+use Rattle.sheet.specs.declared.letters.Letter.{Letter}
+use Rattle.sheet.specs.declared.lines.Values.{Values}
+
+-- a line without its end, and whether its end stands
+abbrev pub TextLine : Type 0
+TextLine = List ℕ × Bool
+
+abbrev pub onto_first_line : ℕ → List TextLine → List TextLine
+onto_first_line b [] = (b ∷ [], false) ∷ []
+onto_first_line b (line ∷ lines) = (b ∷ line.0, line.1) ∷ lines
+
+-- the lines of a text, of which only the last can be without its end
+abbrev pub lines_of : List ℕ → List TextLine
+lines_of [] = []
+lines_of (b ∷ bs) = cond (b == 10) (([], true) ∷ lines_of bs) (onto_first_line b (lines_of bs))
+
+-- a line with its end, if that stands
+abbrev pub line_text : TextLine → List ℕ
+line_text line = line.0 ++ cond line.1 (10 ∷ []) []
+
+-- the parts of a line, cut at each space
+abbrev pub fields_of : List ℕ → List (List ℕ)
+fields_of line = slice_split (λ b. b == 32) line
+
+infixl 10 ◌>>=◌
+abbrev pub ◌>>=◌ : {A B : Type 0} → Option A → (A → Option B) → Option B
+None >>= f = None
+(Some x) >>= f = f x
+
+-- the values of a line, if each field is good at its place
+abbrev pub row : Option ℤ → Option Letter → Option ℤ → Option ℤ → Option ℤ → Option ℤ → Option ℤ → Option ℤ → Option Values
+row party_field call_field a_field fourth_field fifth_field d_field e_field f_field = do
+  party ← party_field
+  call ← call_field
+  a ← a_field
+  fourth ← fourth_field
+  fifth ← fifth_field
+  d ← d_field
+  e ← e_field
+  f ← f_field
+  Some (record { party = party; call = call; a = a; fourth = fourth; fifth = fifth; d = d; e = e; f = f })
+
+-- eight fields, of which the second is a letter and the others are values
+abbrev pub values_in : List (List ℕ) → Option Values
+values_in (party ∷ call ∷ a ∷ fourth ∷ fifth ∷ d ∷ e ∷ f ∷ []) =
+    row (value_of party) (letter_of call) (value_of a) (value_of fourth) (value_of fifth) (value_of d) (value_of e) (value_of f)
+values_in fields = None
+
+abbrev pub values_of : List ℕ → Option Values
+values_of line = values_in (fields_of line)
+
+-- The first of these lines has the values, and these lines are left behind it. A line without its end is malformed.
+pub record IsLine (lines : List TextLine) (values : Option Values) (left : List TextLine) : Type 0 where
+  pub line : List ℕ
+  pub ended : Bool
+  pub first : lines ≡ (line, ended) ∷ left
+  pub read : values ≡ cond ended (values_of line) None
