@@ -12,17 +12,27 @@ use Rattle.sheet.specs.declared.columns.Place.TheVariants.{BehindEnd}
 use Rattle.sheet.specs.declared.lines.Values.{Values}
 use Rattle.sheet.specs.Columns.{ended_at, no_columns, taken_at, values_taken, with_part}
 use Rattle.sheet.specs.Fields.{IsCut, IsInside, lines_ended}
-use Rattle.sheet.specs.Lines.{TextLine, IsLine, fields_of, line_text, lines_of, onto_first_line, values_in}
+use Rattle.sheet.specs.Lines.{TextLine, fields_of, first_line, head_line, line_text, lines_of, onto_first_line, values_in, values_on}
 
 -- all of these parts taken
 abbrev pub columns_after : Columns → List (List ℕ) → Columns
 columns_after columns [] = columns
 columns_after columns (part ∷ parts) = columns_after (with_part columns part) parts
 
--- the values of the first of these lines, behind the columns that were taken before it, and the lines that are left
+-- the values of the first of these lines, behind the columns that were taken before it
+abbrev pub values_ahead : Columns → List TextLine → Option Values
+values_ahead columns [] = None
+values_ahead columns (line ∷ lines) = cond line.1 (values_taken (columns_after columns (fields_of line.0))) None
+
+abbrev pub lines_behind : List TextLine → List TextLine
+lines_behind [] = []
+lines_behind (line ∷ lines) = lines
+
 abbrev pub outcome : Columns → List TextLine → Option Values × List TextLine
-outcome columns [] = (None, [])
-outcome columns (line ∷ lines) = (cond line.1 (values_taken (columns_after columns (fields_of line.0))) None, lines)
+outcome columns lines = (values_ahead columns lines, lines_behind lines)
+
+pub nothing_ahead : (columns : Columns) (text : List ℕ) → text ≡ [] → values_ahead columns (lines_of text) ≡ None
+nothing_ahead columns text e = ap (λ (t : List ℕ). values_ahead columns (lines_of t)) e
 
 -- a field too many stays one
 taken_too_many : (columns : Columns) (parts : List (List ℕ)) → columns.next ≡ BehindEnd → values_taken (columns_after columns parts) ≡ None
@@ -105,14 +115,9 @@ outcome-ends columns text part LineEnd after cut ends =
     ∙ ap (λ (l : List ℕ). (values_taken (columns_after columns (fields_of l)), lines_of after)) (append-nil part)
     ∙ ap (λ (fields : List (List ℕ)). (values_taken (columns_after columns fields), lines_of after)) (fields_of-part part cut.plain)
 
-line_of_outcome : (lines : List TextLine) (values : Option Values) (left : List TextLine) → lines ≢ [] → outcome no_columns lines ≡ (values, left) → IsLine lines values left
-line_of_outcome [] values left some e = absurd (some refl)
-line_of_outcome (line ∷ lines) values left some e = record {
-  line = line.0;
-  ended = line.1;
-  first = ap (λ (o : Option Values × List TextLine). line ∷ o.1) e;
-  read = sym (ap (λ (o : Option Values × List TextLine). o.0) e) ∙ ap (λ v. cond line.1 v None) (values_taken-all (fields_of line.0));
-}
+pub values_ahead-first : (lines : List TextLine) → values_ahead no_columns lines ≡ values_on (head_line lines)
+values_ahead-first [] = refl
+values_ahead-first (line ∷ lines) = ap (λ values. cond line.1 values None) (values_taken-all (fields_of line.0))
 
 lines_of-some : (b : ℕ) (bs : List ℕ) → lines_of (b ∷ bs) ≢ []
 lines_of-some b bs = some_line b (lines_of bs) (b == 10)
@@ -122,10 +127,14 @@ lines_of-some b bs = some_line b (lines_of bs) (b == 10)
     some_line b [] false e = cc
     some_line b (line ∷ lines) false e = cc
 
--- what was read is the text's first line
-pub line_read : (text : List ℕ) (values : Option Values) (left : List TextLine) → text ≢ [] → outcome no_columns (lines_of text) ≡ (values, left) → IsLine (lines_of text) values left
-line_read [] values left some e = absurd (some refl)
-line_read (b ∷ bs) values left some e = line_of_outcome (lines_of (b ∷ bs)) values left (lines_of-some b bs) e
+first_and_behind : (lines left : List TextLine) → lines ≢ [] → lines_behind lines ≡ left → lines ≡ head_line lines ∷ left
+first_and_behind [] left some e = absurd (some refl)
+first_and_behind (line ∷ lines) left some e = ap (λ l. line ∷ l) e
+
+-- behind the first line of a text
+pub lines_left : (text : List ℕ) (left : List TextLine) → text ≢ [] → lines_behind (lines_of text) ≡ left → lines_of text ≡ first_line text ∷ left
+lines_left [] left some e = absurd (some refl)
+lines_left (b ∷ bs) left some e = first_and_behind (lines_of (b ∷ bs)) left (lines_of-some b bs) e
 
 lines-more : (b : ℕ) (bs : List ℕ) (lines : List TextLine) (ends : Bool) → (ends ≡ true → b ≡ 10) → flat_map line_text lines ≡ bs → flat_map line_text (cond ends (([], true) ∷ lines) (onto_first_line b lines)) ≡ b ∷ bs
 lines-more b bs lines true is_end e = ap (λ n. n ∷ flat_map line_text lines) (sym (is_end refl)) ∙ ap (λ l. b ∷ l) e

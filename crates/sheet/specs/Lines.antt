@@ -1,5 +1,5 @@
 -- The lines of a text, and the values that stand on a line.
-use Rattle.std.specs.Prelude.{◌≡◌, ℕ, ℤ, cond, Bool, true, false, List, [], ◌∷◌, ◌++◌, Option, Some, None, ◌==◌}
+use Rattle.std.specs.Prelude.{ℕ, ℤ, cond, Bool, true, false, List, [], ◌∷◌, ◌++◌, Option, Some, None, ◌==◌}
 use Rattle.std.specs.List.{slice_split}
 use Rattle.sheet.specs.Letters.{letter_of}
 use Rattle.sheet.specs.Values.{value_of}
@@ -54,9 +54,14 @@ values_in fields = None
 abbrev pub values_of : List ℕ → Option Values
 values_of line = values_in (fields_of line)
 
--- The first of these lines has the values, and these lines are left behind it. A line without its end is malformed.
-pub record IsLine (lines : List TextLine) (values : Option Values) (left : List TextLine) : Type 0 where
-  pub line : List ℕ
-  pub ended : Bool
-  pub first : lines ≡ (line, ended) ∷ left
-  pub read : values ≡ cond ended (values_of line) None
+-- the first line of a text; where a text has no line, an empty one without its end
+abbrev pub head_line : List TextLine → TextLine
+head_line [] = ([], false)
+head_line (line ∷ lines) = line
+
+abbrev pub first_line : List ℕ → TextLine
+first_line text = head_line (lines_of text)
+
+-- the values of a line, which is malformed without its end
+abbrev pub values_on : TextLine → Option Values
+values_on line = cond line.1 (values_of line.0) None

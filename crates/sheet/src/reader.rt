@@ -1,7 +1,7 @@
-ghost use Rattle.std.specs.Prelude.{◌≡◌, ◌↔◌, ◌+◌, ◌^◌, ◌<◌, List, ℕ, [], IfNone, IfSome, IsNone, length};
+ghost use Rattle.std.specs.Prelude.{◌≡◌, ◌↔◌, ◌+◌, ◌^◌, ◌<◌, List, ℕ, [], ◌∷◌, IfNone, IfSome, IsNone, length};
 ghost use Rattle.sheet.specs.Fields.{IsField, joined, lines_ended, pieces_of};
 ghost use Rattle.std.specs.List.{flat_map, join_with_byte};
-ghost use Rattle.sheet.specs.Lines.{IsLine, fields_of, line_text, lines_of};
+ghost use Rattle.sheet.specs.Lines.{fields_of, first_line, line_text, lines_of, values_on};
 ghost use Rattle.sheet.specs.declared.cuts.Ending.{Ending};
 
 use crate::columns::Columns;
@@ -62,11 +62,13 @@ impl<'a> Reader<'a> {
     }
 
     // The next line, read field by field up to its end and no further.
+    #[tactic(auto, using(crate::proofs::LinesOfTexts::nothing_ahead))]
     pub fn next_line(&mut self) -> Option<Line>
         ensures none { IsNone result ↔ (self.old.rest.now ≡ []) }
         ensures unchanged { IfNone result ((self.new.rest.now ≡ self.old.rest.now) × (self.new.line ≡ self.old.line)) }
 
-        ensures line { IfSome result (λ line. IsLine (lines_of self.old.rest.now) line.values (lines_of self.new.rest.now)) }
+        ensures values { IfSome result (λ line. line.values ≡ values_on (first_line self.old.rest.now)) }
+        ensures left { IfSome result (λ line. lines_of self.old.rest.now ≡ first_line self.old.rest.now ∷ lines_of self.new.rest.now) }
         ensures number { IfSome result (λ line. line.number ≡ self.old.line) }
         ensures counted { IfSome result (λ line. self.new.line ≡ self.old.line + 1) }
         // No byte is lost when a text is taken as lines, or a line as fields.
