@@ -8,4 +8,6 @@ pub mod letters;
 pub mod lines;
 pub mod reader;
 pub mod replies;
+#[cfg(test)]
+mod tests;
 pub mod values;
