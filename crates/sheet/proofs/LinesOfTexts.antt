@@ -10,7 +10,7 @@ use Rattle.sheet.specs.declared.cuts.Ending.TheVariants.{Space, LineEnd, SheetEn
 use Rattle.sheet.specs.declared.columns.Columns.{Columns}
 use Rattle.sheet.specs.declared.columns.Place.TheVariants.{BehindEnd}
 use Rattle.sheet.specs.declared.lines.Values.{Values}
-use Rattle.sheet.specs.Columns.{ended_at, no_columns, taken_at, values_taken, with_part}
+use Rattle.sheet.specs.Columns.{ended_at, following, no_columns, read_at, values_taken, with_part}
 use Rattle.sheet.specs.Fields.{IsCut, IsInside, lines_ended}
 use Rattle.sheet.specs.Lines.{TextLine, fields_of, first_line, head_line, line_text, lines_of, onto_first_line, values_in, values_on}
 
@@ -38,7 +38,7 @@ nothing_ahead columns text e = ap (λ (t : List ℕ). values_ahead columns (line
 taken_too_many : (columns : Columns) (parts : List (List ℕ)) → columns.next ≡ BehindEnd → values_taken (columns_after columns parts) ≡ None
 taken_too_many columns [] e = ap (λ p. ended_at p columns) e
 taken_too_many columns (part ∷ parts) e =
-    ap (λ p. values_taken (columns_after (taken_at p columns part) parts)) e ∙ taken_too_many columns parts e
+    taken_too_many (with_part columns part) parts (ap (λ p. (read_at p (record columns { next = following p }) part).next) e)
 
 pub values_taken-all : (fields : List (List ℕ)) → values_taken (columns_after no_columns fields) ≡ values_in fields
 values_taken-all [] = refl

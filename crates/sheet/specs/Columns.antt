@@ -12,21 +12,33 @@ use Rattle.sheet.specs.declared.columns.Columns.{Columns}
 abbrev pub no_columns : Columns
 no_columns = record { next = Party; party = None; call = None; a = None; fourth = None; fifth = None; d = None; e = None; f = None }
 
--- a part taken at the place
-abbrev pub taken_at : Place → Columns → List ℕ → Columns
-taken_at Party columns part = record columns { next = Call; party = value_of part }
-taken_at Call columns part = record columns { next = A; call = letter_of part }
-taken_at A columns part = record columns { next = Fourth; a = value_of part }
-taken_at Fourth columns part = record columns { next = Fifth; fourth = value_of part }
-taken_at Fifth columns part = record columns { next = D; fifth = value_of part }
-taken_at D columns part = record columns { next = E; d = value_of part }
-taken_at E columns part = record columns { next = F; e = value_of part }
-taken_at F columns part = record columns { next = End; f = value_of part }
-taken_at End columns part = record columns { next = BehindEnd }
-taken_at BehindEnd columns part = columns
+abbrev pub following : Place → Place
+following Party = Call
+following Call = A
+following A = Fourth
+following Fourth = Fifth
+following Fifth = D
+following D = E
+following E = F
+following F = End
+following End = BehindEnd
+following BehindEnd = BehindEnd
+
+-- a part read for the place
+abbrev pub read_at : Place → Columns → List ℕ → Columns
+read_at Party columns part = record columns { party = value_of part }
+read_at Call columns part = record columns { call = letter_of part }
+read_at A columns part = record columns { a = value_of part }
+read_at Fourth columns part = record columns { fourth = value_of part }
+read_at Fifth columns part = record columns { fifth = value_of part }
+read_at D columns part = record columns { d = value_of part }
+read_at E columns part = record columns { e = value_of part }
+read_at F columns part = record columns { f = value_of part }
+read_at End columns part = columns
+read_at BehindEnd columns part = columns
 
 abbrev pub with_part : Columns → List ℕ → Columns
-with_part columns part = taken_at columns.next columns part
+with_part columns part = read_at columns.next (record columns { next = following columns.next }) part
 
 -- the columns as a line's values, if this is their end
 abbrev pub ended_at : Place → Columns → Option Values

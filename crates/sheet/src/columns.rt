@@ -1,5 +1,5 @@
 ghost use Rattle.std.specs.Prelude.{◌≡◌};
-ghost use Rattle.sheet.specs.Columns.{no_columns, values_taken, with_part};
+ghost use Rattle.sheet.specs.Columns.{following, no_columns, values_taken, with_part};
 
 use crate::letters::Letter;
 use crate::lines::Values;
@@ -19,6 +19,24 @@ pub(crate) enum Place {
     End,
     // a field more than there are places
     BehindEnd,
+}
+
+impl Place {
+    fn following(self) -> Place
+        ensures { result ≡ following self }
+    {
+        match self {
+            Place::Party => Place::Call,
+            Place::Call => Place::A,
+            Place::A => Place::Fourth,
+            Place::Fourth => Place::Fifth,
+            Place::Fifth => Place::D,
+            Place::D => Place::E,
+            Place::E => Place::F,
+            Place::F => Place::End,
+            Place::End | Place::BehindEnd => Place::BehindEnd,
+        }
+    }
 }
 
 // The fields of a line as they come, each read for its place.
@@ -56,41 +74,18 @@ impl Columns {
     pub(crate) fn take(&mut self, part: &[u8])
         ensures { self.new ≡ with_part self.old part.now }
     {
-        match self.next {
-            Place::Party => {
-                self.party = value(part);
-                self.next = Place::Call;
-            }
-            Place::Call => {
-                self.call = Letter::of(part);
-                self.next = Place::A;
-            }
-            Place::A => {
-                self.a = value(part);
-                self.next = Place::Fourth;
-            }
-            Place::Fourth => {
-                self.fourth = value(part);
-                self.next = Place::Fifth;
-            }
-            Place::Fifth => {
-                self.fifth = value(part);
-                self.next = Place::D;
-            }
-            Place::D => {
-                self.d = value(part);
-                self.next = Place::E;
-            }
-            Place::E => {
-                self.e = value(part);
-                self.next = Place::F;
-            }
-            Place::F => {
-                self.f = value(part);
-                self.next = Place::End;
-            }
-            Place::End => self.next = Place::BehindEnd,
-            Place::BehindEnd => {}
+        let place = self.next;
+        self.next = place.following();
+        match place {
+            Place::Party => self.party = value(part),
+            Place::Call => self.call = Letter::of(part),
+            Place::A => self.a = value(part),
+            Place::Fourth => self.fourth = value(part),
+            Place::Fifth => self.fifth = value(part),
+            Place::D => self.d = value(part),
+            Place::E => self.e = value(part),
+            Place::F => self.f = value(part),
+            Place::End | Place::BehindEnd => {}
         }
     }
 
