@@ -3,6 +3,7 @@
 
 mod beginning;
 pub mod errors;
+pub mod limits;
 mod open;
 mod settling;
 mod sizes;

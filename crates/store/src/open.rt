@@ -1,29 +1,14 @@
-ghost use Rattle.std.specs.Prelude.{◌≡◌, ◌≤◌, MatchResult};
-ghost use Rattle.refusals.specs.declared.Refusal.TheVariants.{OutsideLimits};
-ghost use Rattle.store.specs.Opening.{InLimits, Opens, OpeningFails};
+ghost use Rattle.std.specs.Prelude.{MatchResult};
+ghost use Rattle.store.specs.Opening.{Opens, OpeningFails};
 
 use crate::errors::OpenError;
+use crate::limits::within_limits;
 use crate::store::Store;
 use cells::records::Cells;
 use kinds::kind::Kind;
-use model::sizes::Sizes;
-use orders::limits::{LARGEST_SIZE, PARTIES};
 use orders::order::Order;
 use refusals::Refusal;
 use std::alloc::Global;
-
-// 1 to 255 nodes and 1 to 15 parties.
-fn within_limits(nodes: u32, parties: u32) -> Result<Sizes, Refusal>
-    ensures { MatchResult result (λ s. InLimits nodes parties × (s.nodes ≡ nodes) × (s.parties ≡ parties)) (λ e. (InLimits nodes parties → ⊥) × (e ≡ OutsideLimits)) }
-{
-    if !(1..=LARGEST_SIZE).contains(&nodes) || !(1..=PARTIES as u32).contains(&parties) {
-        return Err(Refusal::OutsideLimits);
-    }
-    Ok(Sizes {
-        parties: parties as usize,
-        nodes: nodes as usize,
-    })
-}
 
 impl<K: Kind, U: Order + Drop, V: Order + Drop> Store<K, U, V> {
     // A new store: all zeros, closed trays, empty trails. Refused with 1 for a number of nodes outside 1 to 255 or of
