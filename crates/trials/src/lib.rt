@@ -1,0 +1,13 @@
+// Trials of the shared store by its public calls: runs whose every word was worked out by hand.
+#![tactic(auto)]
+
+#[cfg(test)]
+mod claim;
+#[cfg(test)]
+mod recheck;
+#[cfg(test)]
+mod second_node;
+#[cfg(test)]
+mod unit;
+#[cfg(test)]
+mod words;
