@@ -6,7 +6,17 @@ mod claim;
 #[cfg(test)]
 mod recheck;
 #[cfg(test)]
+mod refused_calls;
+#[cfg(test)]
+mod refused_makes;
+#[cfg(test)]
+mod refused_turns;
+#[cfg(test)]
+mod refused_walks;
+#[cfg(test)]
 mod second_node;
+#[cfg(test)]
+mod states;
 #[cfg(test)]
 mod unit;
 #[cfg(test)]

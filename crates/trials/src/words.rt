@@ -1,13 +1,14 @@
 // What stands in the words of a store with two nodes and two parties, turn by turn.
 use crate::unit::Unit;
-use model::nodes::Node;
+use kinds::kids::PerKid;
+use model::nodes::{Kids, Node};
 use model::tray::Tray;
 use model::words::Count;
 use orders::limits::Party;
 use std::process::Abort;
 
-// A party's turns, and what stands after each of them: the nodes' counts, locks and first kids, and the parties' inboxes,
-// trays and first slots.
+// A party's turns, and what stands after each of them: the nodes' counts, locks and first kids (they have no others), and
+// the parties' inboxes, trays and first slots.
 pub(crate) type Row = (
     Party,
     u32,
@@ -28,6 +29,15 @@ pub(crate) const H1: Tray = Tray::Holding(1);
 
 pub(crate) const H2: Tray = Tray::Holding(2);
 
+// No second and no third kid.
+fn only_kid(first: Node) -> Kids {
+    PerKid {
+        first,
+        second: 0,
+        third: 0,
+    }
+}
+
 // The inbox, the tray and the first slot of a party.
 fn own(unit: &Unit, party: Party) -> (Node, Tray, Node) {
     match unit.store.party(party) {
@@ -45,7 +55,7 @@ pub(crate) fn follow(rt: &impl Abort, unit: &mut Unit, rows: &[Row]) {
                 let i = n as usize - 1;
                 assert_eq!(rt; unit.store.count(n), counts[i]);
                 assert_eq!(rt; unit.store.lock(n), locks[i]);
-                assert_eq!(rt; unit.store.kids(n).first, kids[i]);
+                assert_eq!(rt; unit.store.kids(n), only_kid(kids[i]));
                 assert_eq!(rt; own(unit, n), (inboxes[i], trays[i], slots[i]));
             }
         }
