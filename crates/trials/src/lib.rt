@@ -2,7 +2,17 @@
 #![tactic(auto)]
 
 #[cfg(test)]
+mod beside;
+#[cfg(test)]
 mod claim;
+#[cfg(test)]
+mod each_kind;
+#[cfg(test)]
+mod full;
+#[cfg(test)]
+mod largest;
+#[cfg(test)]
+mod limits;
 #[cfg(test)]
 mod recheck;
 #[cfg(test)]
