@@ -1,4 +1,6 @@
 // The store itself: which sizes open, which slots there are, how long a Make may take, and one over two cards.
+ghost use Rattle.std.specs.Prelude.{◌≡◌, ◌+◌, ◌*◌};
+
 use kinds::kids::PerKid;
 use kinds::maps::{MapData, Maps};
 use model::calls::Call;
@@ -73,7 +75,9 @@ fn card(heap: Global) -> anyhow::Result<Card> {
 }
 
 // Turns of its own after which no Make still runs, unless at some moment of it no node was free.
-fn bound(node_span: u32, parties: u8, party_span: u32) -> u128 {
+fn bound(node_span: u32, parties: u8, party_span: u32) -> u128
+    ensures { result ≡ 18 * node_span * (parties * party_span + 1) + 28 }
+{
     let rounds = u128::from(parties) * u128::from(party_span) + 1;
     18 * u128::from(node_span) * rounds + 28
 }
@@ -89,7 +93,7 @@ fn made<U: Order + Drop, V: Order + Drop>(
     let mut store = Store::<Maps, U, V>::open(rt.alloc(), 2, 2, node_order, party_order)?;
     let (node, turns) = ended(&mut store, bound)?;
     println!(rt;
-        "  {orders}: a Make ends within {bound} turns, one ended at node {node} in {turns}"
+        "  two nodes, two parties, {orders}: Make's bound is {bound}, one ended at node {node} after {turns} turns"
     )?;
     Ok(())
 }
