@@ -27,23 +27,11 @@ line_text line = line.0 ++ cond line.1 (10 ∷ []) []
 abbrev pub fields_of : List ℕ → List (List ℕ)
 fields_of line = slice_split (λ b. b == 32) line
 
-infixl 10 ◌>>=◌
-abbrev pub ◌>>=◌ : {A B : Type 0} → Option A → (A → Option B) → Option B
-None >>= f = None
-(Some x) >>= f = f x
-
 -- the values of a line, if each field is good at its place
 abbrev pub row : Option ℤ → Option Letter → Option ℤ → Option ℤ → Option ℤ → Option ℤ → Option ℤ → Option ℤ → Option Values
-row party_field call_field a_field fourth_field fifth_field d_field e_field f_field = do
-  party ← party_field
-  call ← call_field
-  a ← a_field
-  fourth ← fourth_field
-  fifth ← fifth_field
-  d ← d_field
-  e ← e_field
-  f ← f_field
-  Some (record { party = party; call = call; a = a; fourth = fourth; fifth = fifth; d = d; e = e; f = f })
+row (Some party) (Some call) (Some a) (Some fourth) (Some fifth) (Some d) (Some e) (Some f) =
+    Some (record { party = party; call = call; a = a; fourth = fourth; fifth = fifth; d = d; e = e; f = f })
+row party call a fourth fifth d e f = None
 
 -- eight fields, of which the second is a letter and the others are values
 abbrev pub values_in : List (List ℕ) → Option Values
