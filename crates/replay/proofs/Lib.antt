@@ -1,0 +1,5 @@
+pub mod Openings
+pub mod TurnsOn
+pub mod LinesDone
+pub mod RunsOn
+pub mod SoFar

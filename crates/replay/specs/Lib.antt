@@ -1,0 +1,7 @@
+pub mod Numbers
+pub mod Requests
+pub mod Openings
+pub mod Turns
+pub mod Stages
+pub mod Standing
+pub mod Replays
