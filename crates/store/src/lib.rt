@@ -9,8 +9,6 @@ mod settling;
 mod sizes;
 pub mod store;
 mod taking;
-#[cfg(test)]
-mod tests;
 mod turning;
 mod walking;
 mod words;
