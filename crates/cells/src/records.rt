@@ -15,12 +15,12 @@ pub struct NodeWords {
 // The records of all parties; party p's stands at p - 1.
 #[derive(Debug, Drop)]
 pub struct Table<D> {
-    pub records: Vec<PartyRecord<D>>,
+    pub(crate) records: Vec<PartyRecord<D>>,
 }
 
 // The words of all nodes, node n's at n - 1, and the table of party records.
 #[derive(Debug, Drop)]
 pub struct Cells<D> {
-    pub nodes: Vec<NodeWords>,
-    pub table: Table<D>,
+    pub(crate) nodes: Vec<NodeWords>,
+    pub(crate) table: Table<D>,
 }

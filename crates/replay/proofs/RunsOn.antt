@@ -9,12 +9,13 @@ use Rattle.model.specs.Types.{Outcome}
 use Rattle.model.specs.Runs.{Log, Run, System, still}
 use Rattle.model.specs.Setting.{Setting, meaning_of}
 use Rattle.model.proofs.MakesEnd.{DuesBelowSpan}
+use Rattle.session.specs.Performed.{LawAtEachMoment}
 use Rattle.session.proofs.Performing.{law_after}
 use Rattle.session.proofs.Runs.{run_grows}
 use Rattle.sheet.specs.declared.lines.Values.{Values}
 use Rattle.sheet.specs.declared.replies.Reply.{Reply}
 use Rattle.replay.specs.Numbers.{SheetNumbers}
-use Rattle.replay.specs.Stages.{Stage, LineDoes, malformed, no_store, not_opened, opens, begins, turns, setting_at, goes_on_to, IsRun, IsRunIfAny, StartsAt}
+use Rattle.replay.specs.Stages.{Stage, LineDoes, malformed, no_store, not_opened, opens, begins, turns, setting_at, goes_on_to, RunsUnderLaw, RunsUnderLawIfAny, StartsAt}
 use Rattle.replay.specs.Turns.{Turned, once, again, next_turn}
 
 -- a stride's dues are below its span
@@ -30,23 +31,23 @@ turns_grow X p {F} {H = H} {es = es} {more = more} r (again {es = earlier} {o = 
     subst (λ x. Run X F (es ++ x) H) (sym e) (subst (λ x. Run X F x H) (append_assoc es earlier l) (run_grows (turns_grow X p r t) m))
 
 module _ {K D W : Type 0} (kind : KindMeaning K D W) (sheet : SheetNumbers D W) where
-  of_run : (b : Stage D W) → StartsAt kind sheet b.opening b.first → Run (setting_at kind sheet b.opening) b.first b.log b.now → IsRun kind sheet b
+  of_run : (b : Stage D W) → StartsAt kind sheet b.opening b.first → Run (setting_at kind sheet b.opening) b.first b.log b.now → RunsUnderLaw kind sheet b
   of_run b starts run =
       let f = starts.opened in
       record {
         starts = starts;
         run = run;
-        law = λ p asked new. law_after b.opening.nodes b.opening.parties f.node_order f.party_order starts.session f.new strides_below strides_below (subst (λ F. Run (setting_at kind sheet b.opening) F b.log b.now) starts.is run) p asked new;
+        law = subst (λ F. LawAtEachMoment (setting_at kind sheet b.opening) F b.log b.now) (sym starts.is) (law_after b.opening.nodes b.opening.parties f.node_order f.party_order starts.session f.new strides_below strides_below);
       }
 
-  pub still_a_run : (before after : Option (Stage D W)) {n : ℕ} {values : Option Values} {reply : Reply} → IsRunIfAny kind sheet before → LineDoes kind sheet before n values after reply → IsRunIfAny kind sheet after
-  still_a_run before after h (malformed a e r) = subst (IsRunIfAny kind sheet) (sym e) h
-  still_a_run before after h (no_store a i b e r) = subst (IsRunIfAny kind sheet) (sym e) tt
-  still_a_run before after h (not_opened a f e r) = subst (IsRunIfAny kind sheet) (sym e) h
-  still_a_run before after h (opens {o} {F} a s e r) = subst (IsRunIfAny kind sheet) (sym e) (of_run (record { opening = o; first = F; log = []; now = F }) s still)
+  pub still_a_run : (before after : Option (Stage D W)) {n : ℕ} {values : Option Values} {reply : Reply} → RunsUnderLawIfAny kind sheet before → LineDoes kind sheet before n values after reply → RunsUnderLawIfAny kind sheet after
+  still_a_run before after h (malformed a e r) = subst (RunsUnderLawIfAny kind sheet) (sym e) h
+  still_a_run before after h (no_store a i b e r) = subst (RunsUnderLawIfAny kind sheet) (sym e) tt
+  still_a_run before after h (not_opened a f e r) = subst (RunsUnderLawIfAny kind sheet) (sym e) h
+  still_a_run before after h (opens {o} {F} a s e r) = subst (RunsUnderLawIfAny kind sheet) (sym e) (of_run (record { opening = o; first = F; log = []; now = F }) s still)
   still_a_run before after h (begins {b = b} {G = G} a e m f r) =
-      let u : IsRun kind sheet b = subst (IsRunIfAny kind sheet) e h in
-      subst (IsRunIfAny kind sheet) (sym f) (of_run (goes_on_to kind sheet b _ G) u.starts (run_grows u.run m))
+      let u : RunsUnderLaw kind sheet b = subst (RunsUnderLawIfAny kind sheet) e h in
+      subst (RunsUnderLawIfAny kind sheet) (sym f) (of_run (goes_on_to kind sheet b _ G) u.starts (run_grows u.run m))
   still_a_run before after h (turns {b = b} {p = p} {es = es} {G = G} a e t f r) =
-      let u : IsRun kind sheet b = subst (IsRunIfAny kind sheet) e h in
-      subst (IsRunIfAny kind sheet) (sym f) (of_run (goes_on_to kind sheet b es G) u.starts (turns_grow (setting_at kind sheet b.opening) p u.run t.turned))
+      let u : RunsUnderLaw kind sheet b = subst (RunsUnderLawIfAny kind sheet) e h in
+      subst (RunsUnderLawIfAny kind sheet) (sym f) (of_run (goes_on_to kind sheet b es G) u.starts (turns_grow (setting_at kind sheet b.opening) p u.run t.turned))

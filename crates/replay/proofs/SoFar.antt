@@ -13,7 +13,7 @@ use Rattle.sheet.specs.declared.lines.Values.{Values}
 use Rattle.sheet.specs.declared.replies.Reply.{Reply}
 use Rattle.replay.specs.Numbers.{SheetNumbers}
 use Rattle.replay.specs.Replays.{Adds}
-use Rattle.replay.specs.Stages.{Replayed, nothing, next, LineDoes, Stage, IsRunIfAny}
+use Rattle.replay.specs.Stages.{Replayed, nothing, next, LineDoes, Stage, RunsUnderLawIfAny}
 use Rattle.replay.specs.Standing.{IsHeld, CarriesOutLine}
 use Rattle.replay.proofs.RunsOn.{still_a_run}
 
@@ -23,7 +23,7 @@ module _ {K D W : Type 0} (kind : KindMeaning K D W) (sheet : SheetNumbers D W) 
     pub replies : List Reply
     pub after : Option (Stage D W)
     pub replayed : Replayed kind sheet done replies after
-    pub runs : IsRunIfAny kind sheet after
+    pub runs : RunsUnderLawIfAny kind sheet after
     pub holds : IsHeld after held
     pub split : lines_of all ≡ done ++ lines_of rest
     pub counted : line ≡ suc (length replies)

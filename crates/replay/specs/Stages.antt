@@ -1,5 +1,5 @@
 -- What each line of a sheet does, and what it is answered.
-use Rattle.std.specs.Prelude.{◌≡◌, ℕ, suc, pos, Bool, true, false, List, [], ◌∷◌, ◌++◌, length, Some, None, Option, Ok, Err}
+use Rattle.std.specs.Prelude.{◌≡◌, ℕ, ℤ, suc, pos, Bool, true, false, List, [], ◌∷◌, ◌++◌, length, Some, None, Option, Ok, Err}
 use Rattle.std.specs.Option.{option_and_then}
 use Rattle.refusals.specs.Numbers.{number_of}
 use Rattle.refusals.specs.declared.Refusal.{Refusal}
@@ -14,12 +14,14 @@ use Rattle.model.specs.declared.outcomes.Progress.{Progress}
 use Rattle.model.specs.declared.outcomes.Answer.TheVariants.{Done, AtNode, Contents, Swept, WorthIs}
 use Rattle.model.specs.declared.outcomes.Progress.TheVariants.{Begun, StillRunning, Ended}
 use Rattle.model.specs.Types.{Outcome}
+use Rattle.model.specs.Shown.{outcome_number}
 use Rattle.model.specs.Law.{HoldsAfter}
 use Rattle.model.specs.Plain.{Plain, NewPlain, Ask}
 use Rattle.model.specs.Runs.{System, Moves, Run}
 use Rattle.model.specs.Setting.{Setting, setting_for}
 use Rattle.store.specs.declared.errors.OpenError.TheVariants.{Refused}
 use Rattle.session.specs.declared.session.Session.{Session}
+use Rattle.session.specs.Performed.{LawAtEachMoment}
 use Rattle.session.specs.Sessions.{system_in}
 use Rattle.sheet.specs.declared.lines.Values.{Values}
 use Rattle.sheet.specs.declared.replies.Reply.{Reply}
@@ -40,22 +42,22 @@ abbrev pub is_opening : {D : Type 0} → Request D → Bool
 is_opening r = elim r [ Open o ↦ true | Begin p a ↦ false | Turn p k ↦ false ]
 
 module _ {D W : Type 0} (sheet : SheetNumbers D W) where
-  -- the reply that tells an answer: a node, a Read's data, a Sweep's receiver, a walk's worth and size
-  abbrev pub told_answer : ℕ → Answer D W → Reply
-  told_answer line answer = elim answer [
-    | Done ↦ coded line 0
-    | AtNode n ↦ record { line = line; code = 0; x = pos n; y = pos 0; z = pos 0 }
-    | Contents n d kids ↦ record { line = line; code = 0; x = pos n; y = (sheet.data_numbers d).0; z = (sheet.data_numbers d).1 }
-    | Swept n q ↦ record { line = line; code = 0; x = pos n; y = pos q; z = pos 0 }
-    | WorthIs w m ↦ record { line = line; code = 0; x = (sheet.worth_numbers w).0; y = (sheet.worth_numbers w).1; z = pos m }
+  -- the three numbers by which an answer is told: a node, a Read's data, a Sweep's receiver, a walk's worth and size
+  abbrev pub answer_numbers : Answer D W → ℤ × ℤ × ℤ
+  answer_numbers answer = elim answer [
+    | Done ↦ (pos 0, pos 0, pos 0)
+    | AtNode n ↦ (pos n, pos 0, pos 0)
+    | Contents n d kids ↦ (pos n, (sheet.data_numbers d).0, (sheet.data_numbers d).1)
+    | Swept n q ↦ (pos n, pos q, pos 0)
+    | WorthIs w m ↦ ((sheet.worth_numbers w).0, (sheet.worth_numbers w).1, pos m)
   ]
 
-  abbrev pub told_progress : ℕ → Progress D W → Reply
-  told_progress line progress = elim progress [ Begun ↦ coded line 0 | StillRunning ↦ coded line 100 | Ended answer ↦ told_answer line answer ]
+  abbrev pub outcome_numbers : Outcome D W → ℤ × ℤ × ℤ
+  outcome_numbers o = elim o [ Err e ↦ (pos 0, pos 0, pos 0) | Ok progress ↦ elim progress [ Begun ↦ (pos 0, pos 0, pos 0) | StillRunning ↦ (pos 0, pos 0, pos 0) | Ended answer ↦ answer_numbers answer ] ]
 
   -- the reply that tells an outcome
   abbrev pub told : ℕ → Outcome D W → Reply
-  told line o = elim o [ Err e ↦ coded line (number_of e) | Ok progress ↦ told_progress line progress ]
+  told line o = record { line = line; code = outcome_number o; x = (outcome_numbers o).0; y = (outcome_numbers o).1; z = (outcome_numbers o).2 }
 
   -- what the values of a line ask for; a malformed line asks for nothing
   abbrev pub asked_on : Option Values → Option (Request D)
@@ -94,19 +96,19 @@ module _ {K D W : Type 0} (kind : KindMeaning K D W) (sheet : SheetNumbers D W) 
         → TurnsUpTo (setting_at b.opening) p most b.now es o G
         → after ≡ Some (goes_on_to b es G) → reply ≡ told sheet n o → LineDoes before n values after reply
 
-  -- the commands since the store was opened are a run from it, new, and the law holds of that run
-  pub record IsRun (b : Stage D W) : Type 0 where
+  -- the commands since the store was opened are a run from it, new, and the law holds at each moment of that run
+  pub record RunsUnderLaw (b : Stage D W) : Type 0 where
     pub starts : StartsAt b.opening b.first
     pub run : Run (setting_at b.opening) b.first b.log b.now
-    pub law : (p : Plain D) (asked : ℕ → Ask D) → NewPlain p → HoldsAfter (setting_at b.opening) p asked b.log b.now
+    pub law : LawAtEachMoment (setting_at b.opening) b.first b.log b.now
 
-  abbrev pub IsRunIfAny : Option (Stage D W) → Type 0
-  IsRunIfAny None = Unit {0}
-  IsRunIfAny (Some b) = IsRun b
+  abbrev pub RunsUnderLawIfAny : Option (Stage D W) → Type 0
+  RunsUnderLawIfAny None = Unit {0}
+  RunsUnderLawIfAny (Some b) = RunsUnderLaw b
 
   -- lines of a sheet from its first on, each with its reply, and what stands after the last
   pub data Replayed : List TextLine → List Reply → Option (Stage D W) → Type 0 where
     nothing : {lines : List TextLine} {replies : List Reply} {after : Option (Stage D W)} → lines ≡ [] → replies ≡ [] → after ≡ None → Replayed lines replies after
     next : {lines earlier : List TextLine} {replies before_it : List Reply} {before after : Option (Stage D W)} (line : TextLine) (reply : Reply)
         → Replayed earlier before_it before → lines ≡ earlier ++ line ∷ [] → replies ≡ before_it ++ reply ∷ []
-        → LineDoes before (suc (length before_it)) (values_on line) after reply → IsRunIfAny after → Replayed lines replies after
+        → LineDoes before (suc (length before_it)) (values_on line) after reply → RunsUnderLawIfAny after → Replayed lines replies after

@@ -6,5 +6,5 @@ pub mod numbers;
 mod opening;
 pub mod replaying;
 mod replies;
-pub mod requests;
+mod requests;
 mod turning;

@@ -1,12 +1,11 @@
 ghost use Rattle.std.specs.Prelude.{◌≡◌};
 ghost use Rattle.replay.specs.Numbers.{numbers};
-ghost use Rattle.replay.specs.Stages.{coded, told, told_answer};
+ghost use Rattle.replay.specs.Stages.{answer_numbers, coded, told};
 
 use crate::numbers::OnSheet;
 use model::outcomes::{Answer, Outcome, Progress};
+use model::shown::outcome_number;
 use sheet::replies::Reply;
-
-pub(crate) const STILL_RUNNING: u8 = 100;
 
 pub(crate) const MALFORMED: u8 = 90;
 
@@ -31,19 +30,25 @@ pub(crate) fn code_alone(line: usize, code: u8) -> Reply
 pub(crate) fn reply_to<K: OnSheet>(line: usize, outcome: Outcome<K::Data, K::Worth>) -> Reply
     ensures { result ≡ told (numbers K.OnSheet.on_sheet K.OnSheet.data_numbers K.OnSheet.worth_numbers) line outcome }
 {
-    match outcome {
-        Err(refusal) => code_alone(line, refusal.number()),
-        Ok(Progress::Begun) => code_alone(line, 0),
-        Ok(Progress::StillRunning) => code_alone(line, STILL_RUNNING),
-        Ok(Progress::Ended(answer)) => reply_with::<K>(line, answer),
+    let code = outcome_number(&outcome);
+    let (x, y, z) = match outcome {
+        Ok(Progress::Ended(answer)) => values_of::<K>(answer),
+        _ => (0, 0, 0),
+    };
+    Reply {
+        line,
+        code,
+        x,
+        y,
+        z,
     }
 }
 
-// The reply that tells an answer.
-fn reply_with<K: OnSheet>(line: usize, answer: Answer<K::Data, K::Worth>) -> Reply
-    ensures { result ≡ told_answer (numbers K.OnSheet.on_sheet K.OnSheet.data_numbers K.OnSheet.worth_numbers) line answer }
+// The three numbers by which an answer is told.
+fn values_of<K: OnSheet>(answer: Answer<K::Data, K::Worth>) -> (i64, i64, i64)
+    ensures { result ≡ answer_numbers (numbers K.OnSheet.on_sheet K.OnSheet.data_numbers K.OnSheet.worth_numbers) answer }
 {
-    let (x, y, z) = match answer {
+    match answer {
         Answer::Done => (0, 0, 0),
         Answer::AtNode(node) => (i64::from(node), 0, 0),
         Answer::Contents(node, data, _) => {
@@ -55,12 +60,5 @@ fn reply_with<K: OnSheet>(line: usize, answer: Answer<K::Data, K::Worth>) -> Rep
             let (first, second) = K::show_worth(worth);
             (first, second, i64::from(size))
         }
-    };
-    Reply {
-        line,
-        code: 0,
-        x,
-        y,
-        z,
     }
 }

@@ -20,7 +20,7 @@ use Rattle.model.specs.Runs.{System}
 use Rattle.model.specs.Setting.{setting_for, Setting}
 use Rattle.model.specs.Entries.{nth}
 use Rattle.model.specs.Fun.{upd}
-use Rattle.std.proofs.lemmas.Bool.{leb-false, or_parts}
+use Rattle.std.proofs.lemmas.Bool.{leb-false, or_parts, true≢false}
 use Rattle.model.proofs.Begins.{accepted, passes}
 use Rattle.model.proofs.Sums.{upd_same}
 use Rattle.cells.specs.View.{nodes_of, parties_of, view_of}
@@ -211,6 +211,7 @@ module _ {K D W A B : Type 0} (kind : KindMeaning K D W) (node_order : OrderMean
                   (B.moves notes);
               sizes = B.sizes;
             };
+            worths_stay = λ _. worths_left ∙ change_none worths_asked M worths_lent worths worths_long worths_cut lists'.worths.now (B.worths ∙ worths_first);
           }
 
       -- a walk's Turn
@@ -230,4 +231,5 @@ module _ {K D W A B : Type 0} (kind : KindMeaning K D W) (node_order : OrderMean
                   (T.moves notes);
               sizes = T.sizes;
             };
+            worths_stay = λ e. absurd (true≢false (sym e));
           }

@@ -3,14 +3,12 @@ use Rattle.std.proofs.Common.{ℕ, ◌∙◌, ap, subst}
 use Rattle.kinds.specs.declared.kind.Kind.{Ghosts as KindMeaning}
 use Rattle.orders.specs.declared.order.Order.{Ghosts as OrderMeaning}
 use Rattle.model.specs.Runs.{Log, Run, System}
-use Rattle.model.specs.Law.{HoldsAfter}
 use Rattle.model.specs.Opened.{New}
-use Rattle.model.specs.Plain.{Plain, NewPlain, Ask}
 use Rattle.model.specs.Setting.{Setting, setting_for, meaning_of}
 use Rattle.model.proofs.MakesEnd.{DuesBelowSpan}
 use Rattle.model.proofs.StoreLaw.{store_law}
 use Rattle.session.specs.declared.session.Session.{Session}
-use Rattle.session.specs.Performed.{NewSession}
+use Rattle.session.specs.Performed.{LawAtEachMoment, NewSession}
 use Rattle.session.specs.Sessions.{system_in, setting_of}
 
 module _ {K A B D W : Type 0} {kind : KindMeaning K D W} {node_order : OrderMeaning A} {party_order : OrderMeaning B} (M N : ℕ) (nodes : A) (parties : B)
@@ -27,8 +25,8 @@ module _ {K A B D W : Type 0} {kind : KindMeaning K D W} {node_order : OrderMean
         sized = record { nodes = ap node_order.numbers o.same_node_order ∙ o.sized.for_nodes; parties = ap party_order.numbers o.same_party_order ∙ o.sized.for_parties };
       }
 
-  pub law_after : DuesBelowSpan (meaning_of node_order) → DuesBelowSpan (meaning_of party_order) → {es : Log X} {G : System D W A B} → Run X (system_in s) es G → (p : Plain D) (asked : ℕ → Ask D) → NewPlain p → HoldsAfter X p asked es G
-  law_after low_nodes low_parties {es} {G} r p asked n =
+  pub law_after : DuesBelowSpan (meaning_of node_order) → DuesBelowSpan (meaning_of party_order) → {log : Log X} {H : System D W A B} → LawAtEachMoment X (system_in s) log H
+  law_after low_nodes low_parties {log} {H} p asked n es later G e r rest =
       let law = store_law X low_nodes low_parties in
       law.0 (system_in s) p asked (law.1 (system_in s) p asked starts_new n) es G r
 

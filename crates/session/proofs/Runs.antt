@@ -1,5 +1,5 @@
 -- A run grows by a move at its end; what is known after a run from a new session.
-use Rattle.std.proofs.Common.{◌≡◌, ℕ, zero, suc, ◌<◌, List, [], ◌∷◌, ◌++◌, length, take, get_or, ap, arith}
+use Rattle.std.proofs.Common.{◌≡◌, ℕ, zero, suc, ◌<◌, List, [], ◌∷◌, ◌++◌, length, take, get_or, sym, ap, arith}
 use Rattle.std.specs.Prelude.{zip}
 use Rattle.model.specs.declared.calls.Event.{Event}
 use Rattle.model.specs.Types.{Outcome}
@@ -23,3 +23,8 @@ zip_grows (x ∷ cs) [] zero c o e low is = ap (λ y. (y, o) ∷ []) is
 zip_grows (x ∷ cs) (p ∷ os) zero c o e low is = absurd (omega (arith, e))
 zip_grows (x ∷ cs) [] (suc k) c o e low is = absurd (omega (arith, e))
 zip_grows (x ∷ cs) (p ∷ os) (suc k) c o e low is = ap (λ l. (x, p) ∷ l) (zip_grows cs os k c o (let h = e in omega (arith, h)) (omega (arith, low)) is)
+
+pub take_grows : {C : Type 0} (cs : List C) (k : ℕ) (c : C) → k < length cs → c ≡ get_or cs k c → take (suc k) cs ≡ take k cs ++ c ∷ []
+take_grows [] k c low is = absurd (omega arith)
+take_grows (x ∷ cs) zero c low is = ap (λ y. y ∷ []) (sym is)
+take_grows (x ∷ cs) (suc k) c low is = ap (λ l. x ∷ l) (take_grows cs k c (omega (arith, low)) is)

@@ -19,6 +19,7 @@ use Rattle.model.specs.Runs.{System, Moves}
 use Rattle.model.specs.Setting.{setting_for, Setting}
 use Rattle.model.specs.Steps.{between}
 use Rattle.model.proofs.Between.{within}
+use Rattle.model.proofs.Frames.{upd_all}
 use Rattle.model.proofs.EntryLemmas.{nth_set, nth_read}
 use Rattle.cells.proofs.Views.{upd_own}
 use Rattle.cells.specs.View.{nodes_of, parties_of, view_of, SameSizes}
@@ -76,6 +77,32 @@ module _ {K D W A B : Type 0} (kind : KindMeaning K D W) (node_order : OrderMean
         → Moves X (sys kind node_order party_order before (all_noted kind M walks)) e o (sys kind node_order party_order after (all_noted kind (nodes_of after.cells) walks))
     leaves_walks h = let c = h (all_noted kind M walks) in same_size (sys kind node_order party_order before (all_noted kind M walks)) walks c.sizes c.moves
 
+    -- and all worths
+    pub leaves_worths : SameSizes before.cells after.cells → (q : ℕ) → (all_noted kind (nodes_of after.cells) walks q).worths ≡ (all_noted kind M walks q).worths
+    leaves_worths z q = ap (λ m. (all_noted kind m walks q).worths) z.nodes
+
+    -- one party's lists among all
+    own_noted : (p : ℕ) (own : WalkLists W) → 1 ≤ p → p ≤ length walks → own ≡ get_or walks (p - 1) own → all_noted kind M walks p ≡ noted_in kind M own
+    own_noted p own low high is =
+        let note = noted_in kind M in
+        nth_read nothing (map note walks) p low ∙ get_or-map note walks (p - 1) own nothing (omega arith) ∙ ap note (sym is)
+
+    -- changed
+    own_changed : (p : ℕ) (own' : WalkLists W) → 1 ≤ p → p ≤ length walks → upd (all_noted kind M walks) p (noted_in kind M own') ≡ all_noted kind M (set walks (p - 1) own')
+    own_changed p own' low high =
+        let note = noted_in kind M in
+        sym (nth_set nothing (map note walks) p (note own') low (let l = length-map walks note in omega (arith, l))) ∙ ap (nth nothing) (sym (map-set note walks (p - 1) own'))
+
+    -- a command that writes no worth on one party's lists
+    pub own_worths : (p : ℕ) (own own' : WalkLists W) → 1 ≤ p → p ≤ length walks → own ≡ get_or walks (p - 1) own → vec_items own'.worths ≡ vec_items own.worths → SameSizes before.cells after.cells
+        → (q : ℕ) → (all_noted kind (nodes_of after.cells) (set walks (p - 1) own') q).worths ≡ (all_noted kind M walks q).worths
+    own_worths p own own' low high is same z q =
+        let all = all_noted kind M walks in
+        let changed = noted_in kind M own' in
+        let own_same : changed.worths ≡ (all p).worths = ap (nth kind.none) same ∙ sym (ap (λ n. n.worths) (own_noted p own low high is)) in
+        ap (λ m. (all_noted kind m (set walks (p - 1) own') q).worths) z.nodes ∙ sym (ap (λ f. (f q).worths) (own_changed p own' low high))
+        ∙ upd_all (λ r n. n.worths ≡ (all r).worths) all p changed own_same q (λ _. refl)
+
     -- a command that changes one party's
     pub changes_own : {e : Event D} {o : Outcome D W} (p : ℕ) (own own' : WalkLists W) → 1 ≤ p → p ≤ length walks → own ≡ get_or walks (p - 1) own
         → CarriesWalk kind node_order party_order p e o before after (vec_items own.marks) (vec_items own'.marks) (vec_items own.worths) (vec_items own'.worths)
@@ -83,12 +110,9 @@ module _ {K D W A B : Type 0} (kind : KindMeaning K D W) (node_order : OrderMean
     changes_own {e} {o} p own own' low high is h =
         let all = all_noted kind M walks in
         let note = noted_in kind M in
-        let at : nth nothing (map note walks) p ≡ note own =
-        nth_read nothing (map note walks) p low ∙ get_or-map note walks (p - 1) own nothing (omega arith) ∙ ap note (sym is) in
         let c = h.carries all in
-        let first : upd all p (note own) ≡ all = upd_own all p (note own) (sym at) in
-        let then : upd all p (note own') ≡ all_noted kind M (set walks (p - 1) own') =
-        sym (nth_set nothing (map note walks) p (note own') low (let l = length-map walks note in omega (arith, l))) ∙ ap (nth nothing) (sym (map-set note walks (p - 1) own')) in
+        let first : upd all p (note own) ≡ all = upd_own all p (note own) (sym (own_noted p own low high is)) in
+        let then : upd all p (note own') ≡ all_noted kind M (set walks (p - 1) own') = own_changed p own' low high in
         same_size (sys kind node_order party_order before all) (set walks (p - 1) own') c.sizes
         (subst (λ n. Moves X (sys kind node_order party_order before n) e o (sys kind node_order party_order after (all_noted kind M (set walks (p - 1) own')))) first
         (subst (λ n. Moves X (sys kind node_order party_order before (upd all p (note own))) e o (sys kind node_order party_order after n)) then c.moves))

@@ -1,9 +1,10 @@
 -- What a command does to a store and to the lists that it is lent.
-use Rattle.std.specs.Prelude.{ℕ, Bool, false, List, map, vec_items}
+use Rattle.std.specs.Prelude.{◌≡◌, ℕ, Bool, true, false, List, map, vec_items}
 use Rattle.kinds.specs.declared.kind.Kind.{Ghosts as KindMeaning}
 use Rattle.orders.specs.declared.order.Order.{Ghosts as OrderMeaning}
 use Rattle.model.specs.Entries.{nth}
 use Rattle.model.specs.declared.calls.Event.{Event}
+use Rattle.model.specs.declared.calls.Event.TheVariants.{Begins, Turns, WalkTurns}
 use Rattle.model.specs.Fun.{upd}
 use Rattle.model.specs.Types.{Outcome}
 use Rattle.model.specs.Walks.{Notes}
@@ -11,6 +12,9 @@ use Rattle.walks.specs.Notes.{notes_of}
 use Rattle.cells.specs.View.{nodes_of, SameSizes}
 use Rattle.store.specs.Moved.{Shown, MovesBy}
 use Rattle.session.specs.declared.lists.WalkLists.{WalkLists}
+
+abbrev pub is_begin : {D : Type 0} → Event D → Bool
+is_begin e = elim e [ Begins p a l ↦ true | Turns p l ↦ false | WalkTurns p l ↦ false ]
 
 module _ {K D W : Type 0} (kind : KindMeaning K D W) where
   -- what the lists of one party's walks hold of M nodes
@@ -34,3 +38,5 @@ module _ {K D W A B : Type 0} (kind : KindMeaning K D W) (node_order : OrderMean
   -- of a party's walk, whose lists of marks and worths these are
   pub record CarriesWalk (p : ℕ) (command : Event D) (o : Outcome D W) (before after : Shown D A B) (marks marks' : List Bool) (worths worths' : List W) : Type 0 where
     pub carries : (notes : ℕ → Notes W) → Carries command o before after (upd notes p (notes_of kind.none (nodes_of before.cells) marks worths)) (upd notes p (notes_of kind.none (nodes_of before.cells) marks' worths'))
+    -- a Begin takes marks off, and writes no worth
+    pub worths_stay : is_begin command ≡ true → worths' ≡ worths

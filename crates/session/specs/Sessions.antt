@@ -1,5 +1,5 @@
 -- A session as the model's system, and what a command does to it.
-use Rattle.std.specs.Prelude.{vec_items}
+use Rattle.std.specs.Prelude.{◌≡◌, ℕ, true, vec_items}
 use Rattle.kinds.specs.declared.kind.Kind.{Ghosts as KindMeaning}
 use Rattle.orders.specs.declared.order.Order.{Ghosts as OrderMeaning}
 use Rattle.model.specs.declared.calls.Event.{Event}
@@ -9,7 +9,7 @@ use Rattle.model.specs.Runs.{System, Moves}
 use Rattle.cells.specs.View.{parties_of, nodes_of, SameSizes}
 use Rattle.store.specs.Given.{system_of}
 use Rattle.session.specs.declared.session.Session.{Session}
-use Rattle.session.specs.Lent.{all_noted}
+use Rattle.session.specs.Lent.{all_noted, is_begin}
 
 module _ {K A B D W : Type 0} {kind : KindMeaning K D W} {node_order : OrderMeaning A} {party_order : OrderMeaning B} where
   abbrev pub setting_of : Session K A B D W kind node_order party_order → Setting D W A B
@@ -22,4 +22,6 @@ module _ {K A B D W : Type 0} {kind : KindMeaning K D W} {node_order : OrderMean
   -- a move of the model, with this outcome
   pub record CarriesOut (command : Event D) (o : Outcome D W) (before after : Session K A B D W kind node_order party_order) : Type 0 where
     pub moves : Moves (setting_of before) (system_in before) command o (system_in after)
+    -- a Begin writes no worth
+    pub worths_stay : is_begin command ≡ true → (q : ℕ) → ((system_in after).notes q).worths ≡ ((system_in before).notes q).worths
     pub sizes : SameSizes before.store.cells after.store.cells

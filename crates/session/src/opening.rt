@@ -1,5 +1,5 @@
 ghost use Rattle.std.specs.Prelude.{◌≡◌, All, IfOk, MatchResult, replicate, vec_items, vec_len};
-ghost use Rattle.session.specs.Performed.{NothingNoted};
+ghost use Rattle.session.specs.Performed.{Unnoted};
 ghost use Rattle.store.specs.Opening.{OpeningFails};
 
 use crate::lists::WalkLists;
@@ -23,7 +23,7 @@ fn filled<T: Copy>(heap: Global, len: usize, entry: T) -> Result<Vec<T>, AllocEr
 
 // Lists for so many nodes, on which nothing is noted.
 fn unnoted<K: Kind>(heap: Global, nodes: usize) -> Result<WalkLists<K::Worth>, AllocError>
-    ensures { IfOk result (λ l. NothingNoted K.Kind.none nodes l) }
+    ensures { IfOk result (λ l. Unnoted K.Kind.none nodes l) }
 {
     Ok(WalkLists {
         marks: filled(heap, nodes, false)?,
@@ -38,7 +38,7 @@ fn unnoted_by_all<K: Kind>(
     parties: usize,
 ) -> Result<Vec<WalkLists<K::Worth>>, AllocError>
     ensures len { IfOk result (λ v. vec_len v ≡ parties) }
-    ensures nothing { IfOk result (λ v. All (NothingNoted K.Kind.none nodes) (vec_items v)) }
+    ensures nothing { IfOk result (λ v. All (Unnoted K.Kind.none nodes) (vec_items v)) }
 {
     let mut walks = Vec::with_capacity(heap, parties)?;
     for _ in 0..parties {

@@ -117,8 +117,8 @@ module _ {D : Type 0} (suits : D → PerKid Bool → Bool) (c : Cells D) (p : �
 pub refused_walk : {K D W A B : Type 0} (kind : KindMeaning K D W) (node_order : OrderMeaning A) (party_order : OrderMeaning B) (p : ℕ) (w : Walk) (before : Shown D A B) (lists : Lists W) (e : Refusal) {o : Outcome D W}
     → fault_of kind.suits before.cells p (AsksWalk w) (walk_lengths kind node_order party_order before lists) ≡ Some e → o ≡ Err e → BeginsWalk kind node_order party_order p w o before before lists lists
 refused_walk kind node_order party_order p w before lists e f told = record {
-  moves = λ notes. begin_refused e f told refl;
   worths = refl;
+  moves = λ notes. begin_refused e f told refl;
   further = λ n h. (refl, refl);
   sizes = record { parties = refl; nodes = refl };
 }

@@ -67,8 +67,8 @@ module _ {K D W A B : Type 0} (kind : KindMeaning K D W) (node_order : OrderMean
 
   -- the Begin of a walk, which takes marks off and leaves the worths; its notes stand on its two lists, and nobody else's change
   pub record BeginsWalk (p : ℕ) (w : Walk) (o : Outcome D W) (before after : Shown D A B) (lists lists' : Lists W) : Type 0 where
-    pub moves : (notes : ℕ → Notes W) → MovesBy (Begins p (AsksWalk w) (walk_lengths before lists)) o before after (with_lists notes p before lists) (with_lists notes p before lists')
     pub worths : lists'.worths.now ≡ lists.worths.now
+    pub moves : (notes : ℕ → Notes W) → MovesBy (Begins p (AsksWalk w) (walk_lengths before lists)) o before after (with_lists notes p before lists) (with_lists notes p before lists')
     pub further : FurtherStay kind (nodes_of before.cells) lists lists'
     pub sizes : SameSizes before.cells after.cells
 

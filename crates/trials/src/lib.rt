@@ -14,6 +14,8 @@ mod largest;
 #[cfg(test)]
 mod limits;
 #[cfg(test)]
+mod performed;
+#[cfg(test)]
 mod recheck;
 #[cfg(test)]
 mod refused_calls;

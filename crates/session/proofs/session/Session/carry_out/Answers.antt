@@ -2,13 +2,14 @@ use Rattle.std.proofs.Common.{◌≡◌, ◌∙◌, ℕ, sym, subst, rules}
 use Rattle.std.specs.Prelude.{All, vec_items}
 use Rattle.std.specs.Vec.{with_items}
 use Rattle.std.proofs.lemmas.List.{with_items_is}
+use Rattle.std.proofs.lemmas.Bool.{true≢false}
 use Rattle.model.specs.declared.calls.Asked.TheVariants.{AsksCall, AsksWalk}
 use Rattle.model.specs.declared.calls.Event.TheVariants.{Begins, Turns}
 use Rattle.model.specs.Walks.{Notes}
 use Rattle.store.specs.Shown.{shown}
 use Rattle.session.specs.Lent.{Carries, nothing_noted}
 use Rattle.session.specs.Lists.{AnEntryEach}
-use Rattle.session.proofs.Sessions.{leaves_walks}
+use Rattle.session.proofs.Sessions.{leaves_walks, leaves_worths}
 use Rattle.session.proofs.session.Session.carry_out.Goals as goal
 
 pub invariant_of-self : goal.invariant_of-self
@@ -32,7 +33,7 @@ returns-in-Begins-default-AsksCall-default g c =
     let before = shown s.store (vec_items s.entries) in
     let after = shown c.begin.new.store (vec_items s.entries) in
     let h : (notes : ℕ → Notes g.row.K-Worth.Denot) → Carries g.K.Kind g.U.Order g.V.Order (Begins i.party (AsksCall i.call) i.lengths) c.begin.result before after notes notes = λ notes. rw es (c.begin.ensures notes) in
-    rw is (record { moves = leaves_walks g.K.Kind g.U.Order g.V.Order before after (vec_items s.walks) h; sizes = (h (λ q. nothing_noted g.K.Kind)).sizes })
+    rw is (record { moves = leaves_walks g.K.Kind g.U.Order g.V.Order before after (vec_items s.walks) h; worths_stay = λ e. leaves_worths g.K.Kind g.U.Order g.V.Order before after (vec_items s.walks) (h (λ q. nothing_noted g.K.Kind)).sizes; sizes = (h (λ q. nothing_noted g.K.Kind)).sizes })
 
 pub returns-in-Begins-default-AsksWalk-default : goal.returns-in-Begins-default-AsksWalk-default
 returns-in-Begins-default-AsksWalk-default g c =
@@ -49,7 +50,7 @@ returns-in-Turns g c =
     let before = shown s.store (vec_items s.entries) in
     let after = shown c.turn.new.store (vec_items (with_items s.entries c.turn.new.data)) in
     let h : (notes : ℕ → Notes g.row.K-Worth.Denot) → Carries g.K.Kind g.U.Order g.V.Order (Turns i.party i.lengths) c.turn.result before after notes notes = λ notes. rw (es', es) (c.turn.ensures notes) in
-    rw i.is (record { moves = leaves_walks g.K.Kind g.U.Order g.V.Order before after (vec_items s.walks) h; sizes = (h (λ q. nothing_noted g.K.Kind)).sizes })
+    rw i.is (record { moves = leaves_walks g.K.Kind g.U.Order g.V.Order before after (vec_items s.walks) h; worths_stay = λ e. absurd (true≢false (sym e)); sizes = (h (λ q. nothing_noted g.K.Kind)).sizes })
 
 pub returns-in-WalkTurns : goal.returns-in-WalkTurns
 returns-in-WalkTurns g c = rw c.in-WalkTurns.is c.turn_walk.ensures

@@ -2,6 +2,7 @@ use Rattle.std.proofs.Common.{◌∙◌, ◌-◌, ◌<◌, length, refl, sym, ru
 use Rattle.std.specs.Prelude.{vec_items}
 use Rattle.std.specs.Vec.{with_items}
 use Rattle.std.proofs.lemmas.List.{with_items_is}
+use Rattle.std.proofs.lemmas.Bool.{true≢false}
 use Rattle.refusals.specs.declared.Refusal.TheVariants.{NoSuchParty}
 use Rattle.model.specs.declared.calls.Event.TheVariants.{WalkTurns}
 use Rattle.model.specs.Runs.{walk_turn_refused}
@@ -17,7 +18,7 @@ returns-then-party-lt1 g c =
     let s = c.args.self.now in
     let N = parties_of s.store.cells in
     let none = no_party N c.args.party (between 1 N c.args.party) refl (λ low high. omega arith) in
-    record { moves = walk_turn_refused NoSuchParty (no_party_to_turn s.store.cells c.args.party c.args.lengths none) refl refl; sizes = record { parties = refl; nodes = refl } }
+    record { moves = walk_turn_refused NoSuchParty (no_party_to_turn s.store.cells c.args.party c.args.lengths none) refl refl; worths_stay = λ e q. refl; sizes = record { parties = refl; nodes = refl } }
 
 pub returns-in_default : goal.returns-in_default
 returns-in_default g c =
@@ -25,7 +26,7 @@ returns-in_default g c =
     let N = parties_of s.store.cells in
     let n = s.all_parties in
     let none = no_party N c.args.party (between 1 N c.args.party) refl (λ low high. let u = c.in_default.ensures.variant in search rules) in
-    record { moves = walk_turn_refused NoSuchParty (no_party_to_turn s.store.cells c.args.party c.args.lengths none) refl refl; sizes = record { parties = refl; nodes = refl } }
+    record { moves = walk_turn_refused NoSuchParty (no_party_to_turn s.store.cells c.args.party c.args.lengths none) refl refl; worths_stay = λ e q. refl; sizes = record { parties = refl; nodes = refl } }
 
 pub invariant_of-self-2 : goal.invariant_of-self-2
 invariant_of-self-2 g c =
@@ -56,5 +57,6 @@ returns g c =
     rw (es', ms', ws', es, ms, ws) c.turn_walk.ensures in
     record {
       moves = changes_own g.K.Kind g.U.Order g.V.Order (shown s.store (vec_items s.entries)) (shown c.turn_walk.new.store (vec_items (with_items s.entries c.turn_walk.new.data))) (vec_items s.walks) c.args.party own after (omega arith) (omega (arith, low)) i.value h;
+      worths_stay = λ e. absurd (true≢false (sym e));
       sizes = (h.carries (λ q. nothing_noted g.K.Kind)).sizes;
     }

@@ -55,10 +55,10 @@ returns-clause-begins g c =
     let later = c.clear.new.self in
     let m : c.nodes.result ≡ M = c.nodes.ensures in
     record {
+      worths = c.clear.ensures.worths;
       moves = λ notes. walk_begins notes c.in_ok-situation.situation (noted_on k M c.args.notes.now) (noted_on k M later) none c.in_ok-situation.ensures.situation refl refl
           (λ n. ap (λ z. marks_of z later.marks.now n) (sym m) ∙ c.clear.ensures.cleared n)
           (starts k.suits c.args.self.now.cells c.args.party (AsksWalk c.args.walk) _ none c.start_walk.ensures.becomes.view) refl refl refl;
-      worths = c.clear.ensures.worths;
       further = λ n h. (c.clear.ensures.further n (omega arith), ap (λ ws. nth k.none ws n) c.clear.ensures.worths);
       sizes = c.start_walk.ensures.becomes.sizes;
     }
