@@ -1,5 +1,5 @@
 use Rattle.std.proofs.Common.{◌≡◌, ◌≤◌, length}
-use Rattle.turns.proofs.fill.Given as goal
+use Rattle.turns.proofs.filling.fill.Given as goal
 
 abbrev pub invariant-loop : goal.invariant-loop
 invariant-loop g l = (l.filled ≤ length l.buffer) × (length l.buffer ≡ length l.fn.buffer)
