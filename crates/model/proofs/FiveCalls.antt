@@ -3,13 +3,12 @@ use Rattle.std.proofs.Common.{false, [], ◌∷◌, ◌++◌, pos, refl, arith}
 use Rattle.kinds.specs.declared.gearbox.Range.TheVariants.{Low}
 use Rattle.model.specs.Fun.{upd, sum_to}
 use Rattle.model.specs.Types.{Begins, Turns, WalkTurns, Ok, First, Second, Third, Closed, Open, Holding, OpenTray, ReadTray, LookForNode, LockNode, Recheck, ReadKid, Claim, Unlock, Offer, CloseTray, WriteData, Makes, ReadNothing, ReadData, ReadFirst, ReadSecond, Idle, Drops, Hands, Fetches, TakesOut, Works, WalkReads, Drop, Hand, Fetch, Make, AsksCall, AsksWalk, AtNode, WorthIs, Begun, StillRunning, Ended, Situation}
-use Rattle.model.specs.State.{no_trail, along, new_store, set_count, set_lock, set_inbox, set_tray, set_slot, set_trail, set_run}
+use Rattle.model.specs.State.{no_trail, along, set_count, set_lock, set_inbox, set_tray, set_slot, set_trail, set_run}
 use Rattle.model.specs.Walks.{noted}
 use Rattle.model.specs.Runs.{with_store, Moves, call_begun, walk_begun, turn, walk_turn, Log, Run, still, more}
-use Rattle.model.specs.Opened.{New}
-use Rattle.model.specs.SmallStore.{small, long}
-use Rattle.model.specs.FiveCalls.{plan, over, asked_nothing, FiveCallsInterleaved}
-use Rattle.model.proofs.SmallOrders.{Small, dues_below_span, picking, picks_one, rests, after, quiet_turn}
+use Rattle.model.specs.SmallStore.{small, long, asked_nothing}
+use Rattle.model.specs.FiveCalls.{plan, over, FiveCallsInterleaved}
+use Rattle.model.proofs.SmallOrders.{Small, fresh, fresh_is_new, dues_below_span, picking, picks_one, rests, after, quiet_turn}
 use Rattle.model.proofs.StoreLaw.{store_law}
 
 abbrev mild : Situation
@@ -17,7 +16,7 @@ mild = record { range = Low; gear = 1; temperature = pos 20; geared = (omega ari
 
 -- f with a number is the system after that many moves, m the move that led there
 abbrev f0 : Small
-f0 = record { store = new_store; info = λ n. 0; notes = λ q. record { marks = λ n. false; worths = λ n. 0 }; node_order = λ p. 50; party_order = λ p. 50 }
+f0 = fresh
 
 abbrev f1 : Small
 f1 = with_store small f0 (set_run f0.store 1 (Works (Makes plan) OpenTray))
@@ -206,9 +205,6 @@ f31 = after f30 2 (set_run (set_slot (set_count f30.store 1 0) 2 2 0) 2 Idle)
 m31 : Moves small f30 (Turns 2 long) (Ok (Ended (AtNode 1))) f31
 m31 = quiet_turn f30 2 refl refl refl refl
 
-starts : New small f0
-starts = record { limits = record { some_party = omega arith; few_parties = omega arith; some_node = omega arith; few_nodes = omega arith }; store_is = refl; sized = record { nodes = refl; parties = refl } }
-
 abbrev head_log : Log small
 head_log = (Begins 1 (AsksCall (Make plan)) long, Ok Begun) ∷ (Turns 1 long, Ok StillRunning) ∷ (Turns 1 long, Ok StillRunning) ∷ (Turns 1 long, Ok StillRunning) ∷ (Turns 1 long, Ok StillRunning) ∷ (Turns 1 long, Ok StillRunning) ∷ (Begins 2 (AsksCall (Fetch 2)) long, Ok Begun) ∷ (Turns 1 long, Ok StillRunning) ∷ (Turns 1 long, Ok StillRunning) ∷ (Turns 1 long, Ok StillRunning) ∷ []
 
@@ -233,11 +229,11 @@ five_calls_interleaved =
       last = f31;
       before = head_log;
       after = tail_log;
-      starts_new = starts;
+      starts_new = fresh_is_new;
       runs_before = head_runs;
       runs_after = tail_runs;
       one_makes = refl;
       two_fetches = refl;
       history_is = refl;
-      plainly = λ s n. (law.0 f0 s asked_nothing (law.1 f0 s asked_nothing starts n) (head_log ++ tail_log) f31 whole_runs).runs_as_plain;
+      plainly = λ s n. (law.0 f0 s asked_nothing (law.1 f0 s asked_nothing fresh_is_new n) (head_log ++ tail_log) f31 whole_runs).runs_as_plain;
     }

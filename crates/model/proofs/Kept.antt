@@ -2,15 +2,15 @@
 use Rattle.std.proofs.Common.{◌≡◌, ℕ, ◌+◌, ◌*◌, ◌≤◌, Bool, true, false, sym, refl, ap, ◌∙◌, subst, arith}
 use Rattle.std.proofs.lemmas.Bool.{true≢false}
 use Rattle.orders.specs.Meaning.{Picked}
-use Rattle.model.specs.Types.{Event, ReadSecond, Running, Idle, WalkReads, Outcome, Situation, Told, Tells, Settles, Decision}
-use Rattle.model.specs.State.{last}
+use Rattle.model.specs.Types.{Kids, Event, ReadSecond, Running, Idle, WalkReads, Outcome, Situation, Told, Tells, Settles, Decision}
+use Rattle.model.specs.State.{Trail, no_trail, along, last}
 use Rattle.model.specs.Steps.{address, decision, stepped, looks_at, loaded, decide}
 use Rattle.model.specs.Checks.{is_idle}
-use Rattle.model.specs.Sound.{Sound}
-use Rattle.model.specs.Setting.{Meaning, Setting, WithinLimits}
+use Rattle.model.specs.Sound.{TrailAt, Sound}
+use Rattle.model.specs.Setting.{Meaning, Setting, InLimits}
 use Rattle.model.specs.Runs.{System, Moves, begin_refused, call_begun, walk_begun, turn_refused, turn, walk_turn_refused, walk_turn, Steps, moved, moved_as, Asks, asks_nodes, asks_parties}
 use Rattle.model.specs.Opened.{New, Sized}
-use Rattle.model.specs.Existing.{CanExist, new, moved as then-moved, CountsAreReferences, NoNodeReachesItself, CountsAreAtMost, NoTrailOutgrowsTheNodes}
+use Rattle.model.specs.Existing.{CanExist, new, moved as then-moved, CountsAreReferences, NoNodeReachesItself, CountsAreAtMost, NoTrailOutgrowsTheNodes, IsPath, TrailsArePaths}
 use Rattle.model.proofs.Accepted.{turn_passed, walk_turn_passed}
 use Rattle.model.proofs.Begins.{sound_started, sound_started_walk}
 use Rattle.model.proofs.Bounds.{few_slots, few_boxes, few_trays, few_carriers, few_kids}
@@ -25,9 +25,13 @@ pub asked_or_not : {O V : Type 0} (m : Meaning O) (f : O → V) (asked : Bool) (
 asked_or_not m f true old later p x h a = h (a.picks refl)
 asked_or_not m f false old later p x h a = ap f (a.rests refl)
 
+is_path : (kids : ℕ → Kids) (slots : ℕ → ℕ) (source : ℕ) (T : Trail) → TrailAt kids slots source T → IsPath kids slots T
+is_path kids slots source no_trail t = t
+is_path kids slots source (along i n ns) t = (t.1, t.2, t.3, t.0)
+
 module _ {D W A B : Type 0} (X : Setting D W A B) where
   pub record Kept (F : System D W A B) : Type 0 where
-    pub limits : WithinLimits X
+    pub limits : InLimits X.nodes X.parties
     pub sound : Sound X.parties X.nodes F.store
     pub sized : Sized X F
 
@@ -97,6 +101,9 @@ module _ {D W A B : Type 0} (X : Setting D W A B) where
 
   pub no_trail_outgrows_the_nodes : NoTrailOutgrowsTheNodes X
   no_trail_outgrows_the_nodes F c q low high = trail_fits X.parties X.nodes F.store (existing_kept F c).sound q low high
+
+  pub trails_are_paths : TrailsArePaths X
+  trails_are_paths F c q low high = is_path F.store.kids (F.store.slot q) _ (F.store.trail q) ((existing_kept F c).sound.trails q low high)
 
   pub counts_are_at_most : {most : ℕ} → most ≡ 12 * X.parties + 3 * X.nodes → CountsAreAtMost X most
   counts_are_at_most is F c n low high =

@@ -59,3 +59,4 @@ pub mod RefusedTurns
 pub mod StoreLaw
 pub mod SmallOrders
 pub mod FiveCalls
+pub mod RefusedCalls

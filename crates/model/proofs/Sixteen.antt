@@ -1,13 +1,13 @@
 -- The run in which a Sweep takes sixteen turns, Begin by Begin and Turn by Turn.
-use Rattle.std.proofs.Common.{ℕ, false, [], ◌∷◌, refl, arith}
+use Rattle.std.proofs.Common.{ℕ, [], ◌∷◌, refl, arith}
 use Rattle.model.specs.Fun.{upd}
 use Rattle.model.specs.Types.{Begins, Turns, Ok, First, Second, Third, Closed, Open, Holding, OpenTray, ReadTray, LookForNode, LockNode, Recheck, ReadKid, ClearKid, UncountKid, Claim, Unlock, Offer, GiveBack, CloseTray, WriteData, CountKid, LinkKid, Plan, Makes, Sweeps, Idle, Drops, Works, Drop, Make, Sweep, AsksCall, AtNode, Begun, StillRunning, Ended}
-use Rattle.model.specs.State.{new_store, set_count, set_lock, set_kid, set_tray, set_slot, set_run}
+use Rattle.model.specs.State.{set_count, set_lock, set_kid, set_tray, set_slot, set_run}
 use Rattle.model.specs.Runs.{with_store, Moves, call_begun, turn, Log, Run, still, more}
 use Rattle.model.specs.Existing.{CanExist, new, moved}
 use Rattle.model.specs.SmallStore.{small, long}
 use Rattle.model.specs.Sixteen.{SixteenIsReached}
-use Rattle.model.proofs.SmallOrders.{Small, picking, picks_one, rests, after, quiet_turn}
+use Rattle.model.proofs.SmallOrders.{Small, fresh, fresh_is_new, picking, picks_one, rests, after, quiet_turn}
 
 abbrev plan1 : Plan ℕ
 plan1 = record { slot = 1; kids = record { first = 0; second = 0; third = 0 }; given = 0 }
@@ -23,14 +23,14 @@ plan4 = record { slot = 4; kids = record { first = 1; second = 2; third = 3 }; g
 
 -- f with a number is the system after that many moves, m the move that led there, c that such a store can exist
 abbrev f0 : Small
-f0 = record { store = new_store; info = λ n. 0; notes = λ q. record { marks = λ n. false; worths = λ n. 0 }; node_order = λ p. 50; party_order = λ p. 50 }
+f0 = fresh
 
 exists_after : {F G : Small} {es : Log small} → CanExist small F → Run small F es G → CanExist small G
 exists_after c still = c
 exists_after c (more m r) = exists_after (moved c m) r
 
 c0 : CanExist small f0
-c0 = new (record { limits = record { some_party = omega arith; few_parties = omega arith; some_node = omega arith; few_nodes = omega arith }; store_is = refl; sized = record { nodes = refl; parties = refl } })
+c0 = new fresh_is_new
 
 abbrev f1 : Small
 f1 = with_store small f0 (set_run f0.store 1 (Works (Makes plan1) OpenTray))

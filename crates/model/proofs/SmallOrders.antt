@@ -1,19 +1,27 @@
--- Orders of a small store, whose dues come down by one with each pick of the party, and turns that ask neither.
+-- A new small store and its orders, whose dues come down by one with each pick of the party, and turns that ask neither.
 use Rattle.std.proofs.Common.{◌≡◌, ℕ, ◌-◌, ◌<◌, ◌≤◌, true, false, None, ltb, subst, sym, refl, ap, arith}
 use Rattle.std.proofs.lemmas.Bool.{cond_both, cond-false, le-ltb, ltb-false, true≢false}
 use Rattle.orders.specs.Limits.{IsParty}
 use Rattle.orders.specs.Meaning.{IsNumber}
 use Rattle.model.specs.Fun.{upd}
 use Rattle.model.specs.Types.{Turns, Outcome}
-use Rattle.model.specs.State.{Store}
+use Rattle.model.specs.State.{Store, new_store}
 use Rattle.model.specs.Checks.{turn_fault}
 use Rattle.model.specs.Runs.{System, Asks, Moves, turn, moved, asks_nodes, asks_parties}
+use Rattle.model.specs.Opened.{New}
 use Rattle.model.specs.SmallStore.{at_most99, falling, small, long}
 use Rattle.model.proofs.Sums.{upd_same, upd_other}
 use Rattle.model.proofs.MakesEnd.{DuesBelowSpan}
 
 abbrev pub Small : Type 0
 Small = System ℕ ℕ (ℕ → ℕ) (ℕ → ℕ)
+
+-- new, with orders that have picks enough for any run here
+abbrev pub fresh : Small
+fresh = record { store = new_store; info = λ n. 0; notes = λ q. record { marks = λ n. false; worths = λ n. 0 }; node_order = λ p. 50; party_order = λ p. 50 }
+
+pub fresh_is_new : New small fresh
+fresh_is_new = record { limits = record { some_party = omega arith; few_parties = omega arith; some_node = omega arith; few_nodes = omega arith }; store_is = refl; sized = record { nodes = refl; parties = refl } }
 
 -- the dues of both orders are below their spans
 pub dues_below_span : (m : ℕ) → DuesBelowSpan (falling m)

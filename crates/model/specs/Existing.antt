@@ -1,8 +1,9 @@
 -- Every store that can exist: a new one, and what any Begins and Turns make of it. What is promised of each.
-use Rattle.std.specs.Prelude.{◌≡◌, ℕ, ◌+◌, ◌≤◌, ◌∷◌, length}
-use Rattle.model.specs.Types.{Event, Situation, Outcome}
+use Rattle.std.specs.Prelude.{◌≡◌, ◌≢◌, ℕ, ◌+◌, ◌≤◌, ◌∷◌, length}
+use Rattle.model.specs.Types.{Kids, Event, Situation, Outcome}
 use Rattle.model.specs.State.{Trail, no_trail, along}
-use Rattle.model.specs.Reach.{Acyclic}
+use Rattle.model.specs.Checks.{last_slot}
+use Rattle.model.specs.Reach.{Acyclic, Chain}
 use Rattle.model.specs.Inv.{in_slots, in_boxes, in_trays, in_kids, carried}
 use Rattle.model.specs.Setting.{Setting}
 use Rattle.model.specs.Plain.{WorksOut, TermHas}
@@ -14,6 +15,11 @@ use Rattle.model.specs.Law.{FreeWhenLost, MakesEnd, OtherCallsEnd}
 abbrev pub trail_length : Trail → ℕ
 trail_length no_trail = 0
 trail_length (along i n ns) = length (n ∷ ns)
+
+-- a trail is empty, or a path that starts at the node of one of its party's slots and goes from node to kid
+abbrev pub IsPath : (ℕ → Kids) → (ℕ → ℕ) → Trail → Type 0
+IsPath kids slots no_trail = Unit {0}
+IsPath kids slots (along i n ns) = (1 ≤ i) × (i ≤ last_slot) × (slots i ≢ 0) × Chain kids (slots i) n ns
 
 module _ {D W A B : Type 0} (X : Setting D W A B) where
   pub data CanExist : System D W A B → Type 0 where
@@ -34,6 +40,9 @@ module _ {D W A B : Type 0} (X : Setting D W A B) where
 
   abbrev pub NoTrailOutgrowsTheNodes : Type 0
   NoTrailOutgrowsTheNodes = (F : System D W A B) → CanExist F → (q : ℕ) → 1 ≤ q → q ≤ X.parties → trail_length (F.store.trail q) ≤ X.nodes
+
+  abbrev pub TrailsArePaths : Type 0
+  TrailsArePaths = (F : System D W A B) → CanExist F → (q : ℕ) → 1 ≤ q → q ≤ X.parties → IsPath F.store.kids (F.store.slot q) (F.store.trail q)
 
   abbrev pub ReachedDataFits : Type 0
   ReachedDataFits = (F : System D W A B) → CanExist F → ReachedFits X F

@@ -1,11 +1,11 @@
 -- A run in which two parties interleave a Make, a Hand, a Fetch, a walk and a Drop.
 use Rattle.std.specs.Prelude.{◌≡◌, ℕ, true, List, [], ◌∷◌, ◌++◌, pos}
-use Rattle.model.specs.Types.{Ok, Plan, Fetches, Up, Drop, Hand, Fetch, Make, Walk, Asked, AsksCall, AsksWalk, AtNode, WorthIs, Outcome, Ended}
+use Rattle.model.specs.Types.{Ok, Plan, Fetches, Drop, Hand, Fetch, Make, Walk, AsksCall, AsksWalk, AtNode, WorthIs, Outcome, Ended}
 use Rattle.model.specs.Plain.{Plain, NewPlain, Ask, PlainRun}
 use Rattle.model.specs.Runs.{System, Log, Run, history}
 use Rattle.model.specs.Opened.{Agrees, New}
 use Rattle.model.specs.Law.{is_making}
-use Rattle.model.specs.SmallStore.{small, long}
+use Rattle.model.specs.SmallStore.{small, by, asked_nothing}
 
 -- a node without kids whose data is 7, for slot 1
 abbrev pub plan : Plan ℕ
@@ -14,13 +14,6 @@ plan = record { slot = 1; kids = record { first = 0; second = 0; third = 0 }; gi
 -- from slot 2, in low range, first gear, oil at 20 degrees
 abbrev pub over : Walk
 over = record { slot = 2; range = pos 0; gear = pos 1; temperature = pos 20 }
-
--- at first nobody has asked for anything
-abbrev pub asked_nothing : ℕ → Ask ℕ
-asked_nothing q = record { party = q; asked = AsksCall Up; lengths = long }
-
-abbrev by : ℕ → Asked ℕ → Ask ℕ
-by p a = record { party = p; asked = a; lengths = long }
 
 -- party 1 makes node 1 and hands it to party 2, which fetches it, walks over it and drops it
 abbrev pub five_calls : List (Ask ℕ × Outcome ℕ ℕ)

@@ -21,4 +21,5 @@ pub mod PlaceTexts
 pub mod SmallStore
 pub mod Sixteen
 pub mod FiveCalls
+pub mod RefusedCalls
 pub mod Strides

@@ -8,7 +8,7 @@ use Rattle.model.specs.Checks.{begin_fault, is_walking, given_by}
 use Rattle.model.specs.Begins.{kid_of}
 use Rattle.model.specs.Reach.{Reached, InTerm}
 use Rattle.model.specs.Sound.{Sound, SeekersOpen}
-use Rattle.model.specs.Setting.{Setting, WithinLimits}
+use Rattle.model.specs.Setting.{Setting, InLimits}
 use Rattle.model.specs.Plain.{Plain, Ask, WorksOut}
 use Rattle.model.specs.Runs.{System}
 
@@ -80,7 +80,7 @@ module _ {D W A B : Type 0} (X : Setting D W A B) where
     pub parties : X.party_order.numbers F.party_order ≡ X.parties
 
   pub record Opened (F : System D W A B) (s : Plain D) (asked : ℕ → Ask D) : Type 0 where
-    pub limits : WithinLimits X
+    pub limits : InLimits X.nodes X.parties
     pub sound : Sound X.parties X.nodes F.store
     pub seeking : SeekersOpen X.parties F.store
     pub sized : Sized F
@@ -90,6 +90,6 @@ module _ {D W A B : Type 0} (X : Setting D W A B) where
 
   -- a new store, with orders made for it; the caller's lists hold anything
   pub record New (F : System D W A B) : Type 0 where
-    pub limits : WithinLimits X
+    pub limits : InLimits X.nodes X.parties
     pub store_is : F.store ≡ new_store
     pub sized : Sized F

@@ -22,12 +22,12 @@ pub record Setting (D W A B : Type 0) : Type 0 where
   pub parties : ℕ
   pub nodes : ℕ
 
--- there are 1 to 15 parties and 1 to 255 nodes
-pub record WithinLimits {D W A B : Type 0} (X : Setting D W A B) : Type 0 where
-  pub some_party : 1 ≤ X.parties
-  pub few_parties : X.parties ≤ last_party
-  pub some_node : 1 ≤ X.nodes
-  pub few_nodes : X.nodes ≤ largest_size
+-- 1 to 255 nodes and 1 to 15 parties
+pub record InLimits (nodes parties : ℕ) : Type 0 where
+  pub some_node : 1 ≤ nodes
+  pub few_nodes : nodes ≤ largest_size
+  pub some_party : 1 ≤ parties
+  pub few_parties : parties ≤ last_party
 
 -- a search order by its meaning
 abbrev pub meaning_of : {O : Type 0} → OrderMeaning O → Meaning O

@@ -1,7 +1,8 @@
 -- A store of two parties and four nodes, for runs that are exhibited.
 use Rattle.std.specs.Prelude.{ℕ, true, cond, nat_lt}
-use Rattle.model.specs.Types.{Lengths}
+use Rattle.model.specs.Types.{Lengths, Up, Asked, AsksCall}
 use Rattle.model.specs.Setting.{Meaning, Setting}
+use Rattle.model.specs.Plain.{Ask}
 
 -- a due of so much, and at most 99
 abbrev pub at_most99 : ℕ → ℕ
@@ -18,3 +19,11 @@ small = record { suits = λ d k. true; worth = λ d t a b c. d; blank = 0; node_
 -- lists that are long enough
 abbrev pub long : Lengths
 long = record { entries = 4; marks = 4; worths = 4 }
+
+-- what a party asks for, with such lists
+abbrev pub by : ℕ → Asked ℕ → Ask ℕ
+by p a = record { party = p; asked = a; lengths = long }
+
+-- at first nobody has asked for anything
+abbrev pub asked_nothing : ℕ → Ask ℕ
+asked_nothing q = by q (AsksCall Up)

@@ -1,7 +1,7 @@
 // What is promised of every store that can exist, for every kind of data and every two search orders.
 ghost use Rattle.std.specs.Prelude.{◌≡◌, ℕ, ◌+◌, ◌*◌};
 ghost use Rattle.model.specs.Setting.{setting_for};
-ghost use Rattle.model.specs.Existing.{CountsAreReferences, CountsAreAtMost, NoNodeReachesItself, NoTrailOutgrowsTheNodes, ReachedDataFits, EachNodeHasOneWorth, EachTermHasOneSize};
+ghost use Rattle.model.specs.Existing.{CountsAreReferences, CountsAreAtMost, NoNodeReachesItself, NoTrailOutgrowsTheNodes, TrailsArePaths, ReachedDataFits, EachNodeHasOneWorth, EachTermHasOneSize};
 
 use crate::nodes::Node;
 use crate::words::Count;
@@ -37,6 +37,11 @@ pub fn no_node_reaches_itself<K: Kind, U: Order, V: Order>()
 // A trail has at most as many nodes as the store.
 pub fn no_trail_outgrows_the_nodes<K: Kind, U: Order, V: Order>()
     ensures { (N M : ℕ) → NoTrailOutgrowsTheNodes (setting_for K.Kind U.Order V.Order N M) }
+{}
+
+// A trail is empty, or a path from the node of one of its party's slots, from node to kid.
+pub fn trails_are_paths<K: Kind, U: Order, V: Order>()
+    ensures { (N M : ℕ) → TrailsArePaths (setting_for K.Kind U.Order V.Order N M) }
 {}
 
 // The data of every node that a slot or inbox reaches fits its kids.

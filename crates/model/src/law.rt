@@ -3,6 +3,7 @@ ghost use Rattle.std.specs.Prelude.{ℕ};
 ghost use Rattle.model.specs.Setting.{setting_for};
 ghost use Rattle.model.specs.Law.{StoreLaw};
 ghost use Rattle.model.specs.FiveCalls.{FiveCallsInterleaved};
+ghost use Rattle.model.specs.RefusedCalls.{RefusedCallsStand};
 ghost use Rattle.model.specs.Strides.{StridesOpenANewStore};
 
 use kinds::kind::Kind;
@@ -18,6 +19,11 @@ pub fn store_law<K: Kind, U: Order, V: Order>()
 // The law speaks of something: from a new store two parties interleave a Make, a Hand, a Fetch, a walk and a Drop.
 pub fn five_calls_interleaved()
     ensures { FiveCallsInterleaved }
+{}
+
+// A call that is refused, but not for being busy, stands where it is refused; a Turn of nothing stands nowhere.
+pub fn refused_calls_stand()
+    ensures { RefusedCallsStand }
 {}
 
 // What the law starts from is met by a new store whose search orders are two strides.

@@ -20,7 +20,7 @@ module _ {K A B D W : Type 0} {kind : KindMeaning K D W} {node_order : OrderMean
   starts_new =
       let o = h.store in
       record {
-        limits = record { some_party = o.limits.some_party; few_parties = o.limits.few_parties; some_node = o.limits.some_node; few_nodes = o.limits.few_nodes };
+        limits = o.limits;
         store_is = o.new;
         sized = record { nodes = ap node_order.numbers o.same_node_order ∙ o.sized.for_nodes; parties = ap party_order.numbers o.same_party_order ∙ o.sized.for_parties };
       }

@@ -1,19 +1,12 @@
 -- When a store opens, and why it does not.
-use Rattle.std.specs.Prelude.{◌≡◌, ℕ, ◌≤◌, ◌⊎◌}
+use Rattle.std.specs.Prelude.{◌≡◌, ℕ, ◌⊎◌}
 use Rattle.refusals.specs.declared.Refusal.TheVariants.{OutsideLimits, OrderOfAnotherSize}
-use Rattle.orders.specs.Limits.{last_party, largest_size}
 use Rattle.model.specs.State.{new_store}
+pub use Rattle.model.specs.Setting.{InLimits}
 use Rattle.cells.specs.declared.records.Cells.{Cells}
 use Rattle.cells.specs.View.{view_of, parties_of, nodes_of}
 use Rattle.store.specs.declared.errors.OpenError.{OpenError}
 use Rattle.store.specs.declared.errors.OpenError.TheVariants.{Refused, NoMemory}
-
--- 1 to 255 nodes and 1 to 15 parties
-pub record InLimits (nodes parties : ℕ) : Type 0 where
-  pub some_node : 1 ≤ nodes
-  pub few_nodes : nodes ≤ largest_size
-  pub some_party : 1 ≤ parties
-  pub few_parties : parties ≤ last_party
 
 module _ {A B : Type 0} (numbers : A → ℕ) (numbers' : B → ℕ) where
   -- the orders are made for so many nodes and parties
