@@ -1,6 +1,6 @@
 ghost use Rattle.std.specs.Prelude.{[], ◌∷◌, not};
 ghost use Rattle.refusals.specs.declared.Refusal.TheVariants.{NoSuchSlot, NoTrail};
-ghost use Rattle.model.specs.Checks.{first_fault, is_none};
+ghost use Rattle.model.specs.Checks.{first_fault, is_none, last_kid};
 ghost use Rattle.model.specs.State.{trail_of};
 ghost use Rattle.model.specs.Steps.{between};
 ghost use Rattle.checks.specs.Faults.{AcceptedUnless, RefusedIf, call_fault_of};
@@ -47,7 +47,7 @@ pub(crate) fn check_call<K: Kind>(
 
 // Kids are numbered from 1.
 fn check_kid(k: u8) -> Result<(), Refusal>
-    ensures { RefusedIf (not (between 1 3 k)) NoSuchSlot result }
+    ensures { RefusedIf (not (between 1 last_kid k)) NoSuchSlot result }
 {
     Kid::try_from(k)?;
     Ok(())

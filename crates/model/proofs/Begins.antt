@@ -8,7 +8,7 @@ use Rattle.kinds.specs.declared.kids.PerKid.{PerKid}
 use Rattle.model.specs.Types.{Lengths, Kid, First, Second, Third, Kids, OpenTray, LookForNode, Plan, Makes, Sweeps, ReadNothing, Running, Idle, Reads, GoesDown, Keeps, Drops, Hands, Fetches, Works, WalkReads, Call, Enter, Up, Leave, Read, Down, Keep, Drop, Hand, Fetch, Make, Sweep, Walk, Asked, AsksCall, AsksWalk, Situation}
 use Rattle.model.specs.State.{kid_at, Trail, no_trail, along, shorter, Store, set_trail, set_run}
 use Rattle.model.specs.Steps.{between}
-use Rattle.model.specs.Checks.{last_slot, first_fault, is_none, entered_at, no_slot, no_kid_slot, kid_slot_empty, given_by, no_receiver, too_short, call_faults, walk_faults, faults, begin_fault, is_idle}
+use Rattle.model.specs.Checks.{last_slot, last_kid, first_fault, is_none, entered_at, no_slot, no_kid_slot, kid_slot_empty, given_by, no_receiver, too_short, call_faults, walk_faults, faults, begin_fault, is_idle}
 use Rattle.model.specs.Inv.{none, reliance, needs_of, Own, Fit, LocalOf}
 use Rattle.model.specs.Sound.{Into, on_trail, opens, TrailAt, Sound}
 use Rattle.model.specs.Begins.{kid_of, started, started_walk}
@@ -95,8 +95,8 @@ module _ {D : Type 0} (suits : D → PerKid Bool → Bool) where
 
     pub down_passed : (k : ℕ) → first_fault (call_faults suits (Down k) slots t) ≡ None → (1 ≤ k) × (k ≤ 3) × (is_none t ≡ false)
     down_passed k h =
-        let u = passes (not (between 1 3 k)) NoSuchSlot ((is_none t, NoTrail) ∷ []) h in
-        let r = is_between 1 3 k u.0 in
+        let u = passes (not (between 1 last_kid k)) NoSuchSlot ((is_none t, NoTrail) ∷ []) h in
+        let r = is_between 1 last_kid k u.0 in
         (r.0, r.1, (passes (is_none t) NoTrail [] u.1).0)
 
     pub keep_passed : (i : ℕ) → first_fault (call_faults suits (Keep i) slots t) ≡ None → (1 ≤ i) × (i ≤ last_slot) × (is_none t ≡ false) × (slots i ≡ 0)

@@ -12,6 +12,10 @@ use Rattle.model.specs.Steps.{between}
 abbrev pub last_slot : ℕ
 last_slot = 8
 
+-- and a node so many kids
+abbrev pub last_kid : ℕ
+last_kid = 3
+
 -- the first of several faults that is there
 abbrev pub first_fault : List (Bool × Refusal) → Option Refusal
 first_fault [] = None
@@ -53,7 +57,7 @@ module _ {D : Type 0} (suits : D → PerKid Bool → Bool) where
   call_faults Up slots t = (is_none t, NoTrail) ∷ []
   call_faults Leave slots t = (is_none t, NoTrail) ∷ []
   call_faults Read slots t = (is_none t, NoTrail) ∷ []
-  call_faults (Down k) slots t = (not (between 1 3 k), NoSuchSlot) ∷ (is_none t, NoTrail) ∷ []
+  call_faults (Down k) slots t = (not (between 1 last_kid k), NoSuchSlot) ∷ (is_none t, NoTrail) ∷ []
   call_faults (Keep i) slots t = (no_slot i, NoSuchSlot) ∷ (is_none t, NoTrail) ∷ (not (slots i == 0), SlotFilled) ∷ []
   call_faults (Drop i) slots t = (no_slot i, NoSuchSlot) ∷ (entered_at t i, TrailStands) ∷ ((slots i == 0), SlotEmpty) ∷ []
   call_faults (Hand i q) slots t = (no_slot i, NoSuchSlot) ∷ (entered_at t i, TrailStands) ∷ ((slots i == 0), SlotEmpty) ∷ []
