@@ -1,5 +1,5 @@
 -- From what the program's parts promise to a move of the model.
-use Rattle.std.proofs.Common.{Err, Ok, ◌≡◌, ℕ, Bool, false, cond, not, ◌||◌, ltb, [], ◌∷◌, Some, None, Option, sym, refl, ap, ◌∙◌, arith}
+use Rattle.std.proofs.Common.{Err, Ok, ◌≡◌, ℕ, Bool, false, cond, not, ◌||◌, ltb, [], ◌∷◌, Some, None, Option, sym, refl, ap, ◌∙◌}
 use mathlib.Core.Path.{fun_ext}
 use Rattle.refusals.specs.declared.Refusal.{Refusal}
 use Rattle.refusals.specs.declared.Refusal.TheVariants.{NoSuchParty, ShortList, Busy, NothingToTurn}
@@ -14,24 +14,21 @@ use Rattle.model.specs.declared.calls.Asked.{Asked}
 use Rattle.model.specs.declared.calls.Asked.TheVariants.{AsksCall, AsksWalk}
 use Rattle.model.specs.declared.calls.Call.{Call}
 use Rattle.model.specs.declared.calls.Walk.{Walk}
-use Rattle.model.specs.declared.words.NodeRead.{NodeRead}
 use Rattle.model.specs.Types.{Outcome}
 use Rattle.model.specs.declared.outcomes.Progress.TheVariants.{Begun}
 use Rattle.model.specs.declared.running.Running.{Running}
-use Rattle.model.specs.declared.words.Told.{Told}
-use Rattle.model.specs.declared.words.Told.TheVariants.{Tells, Settles}
 use Rattle.model.specs.Fun.{upd}
 use Rattle.model.specs.Begins.{started_walk}
 use Rattle.model.specs.Checks.{first_fault, no_receiver, too_short, faults, begin_fault, turn_fault, is_idle, is_walking}
 use Rattle.model.specs.State.{Store}
 use Rattle.model.specs.Walks.{Notes}
 use Rattle.kinds.specs.Situations.{Describes}
-use Rattle.model.specs.Runs.{System, begin_fault_of, begin_refused, walk_begun, Moves, Steps, moved_as, moved}
+use Rattle.model.specs.Runs.{System, begin_fault_of, begin_refused, walk_begun, Moves}
 use Rattle.model.specs.Setting.{Setting}
-use Rattle.model.specs.Steps.{between, decision}
+use Rattle.model.specs.Steps.{between}
 use Rattle.model.proofs.Begins.{accepted}
 use Rattle.model.proofs.Between.{is_within}
-use Rattle.cells.proofs.Views.{upd_own, upd_twice}
+use Rattle.cells.proofs.Views.{upd_twice}
 use Rattle.cells.specs.declared.records.Cells.{Cells}
 use Rattle.cells.specs.View.{view_of, record_of, parties_of, nodes_of}
 use Rattle.checks.specs.Faults.{begin_fault_of as begin_fault_by}
@@ -39,8 +36,6 @@ use Rattle.model.specs.declared.party.PartyRecord.{PartyRecord}
 use Rattle.model.specs.declared.sizes.Sizes.{Sizes}
 use Rattle.walks.specs.declared.notes.Notes.{Notes as Lists}
 use Rattle.store.specs.Moved.{Shown, BeginsWalk, walk_lengths}
-use Rattle.store.specs.Taken.{Taken}
-use Rattle.store.proofs.Readiness.{told_at_once}
 
 -- notes, where any will do
 abbrev pub no_notes : {W : Type 0} → W → ℕ → Notes W
@@ -51,32 +46,6 @@ pub fault_of_entries : {D : Type 0} {N M : ℕ} (p : ℕ) {z : Sizes} (l l' : Le
 fault_of_entries {D} {N} {M} p {z} l l' {r} {r'} ez el er =
     let f : ℕ → Running D → Option Refusal = λ k q. first_fault ((not (between 1 N p), NoSuchParty) ∷ (ltb k M, ShortList) ∷ (is_walking q, Busy) ∷ (is_idle q, NothingToTurn) ∷ []) in
     sym (ap (λ u. turn_fault u.parties u.nodes p l r) ez ∙ ap (λ k. f k r) el ∙ ap (f l'.entries) er)
-
-module _ {D W A B : Type 0} {X : Setting D W A B} {F G : System D W A B} {p : ℕ} {r : Told D W} (T : Taken X F G p r) where
-  -- a step that tells its outcome at once is an accepted Turn
-  pub tells_at_turn : {o : Outcome D W} → r ≡ Tells o → G.notes ≡ F.notes → Steps X F p o G
-  tells_at_turn {o} e n =
-      let x = T.pick in
-      let d = decision {W = W} X.parties X.nodes F.store F.info p x in
-      let q : d.told ≡ Tells o = sym T.told ∙ e in
-      record {
-        pick = x;
-        store_is = T.store_is ∙ sym (ap (λ t. (moved_as X F p x d t).store) q);
-        info_is = T.info_is ∙ sym (ap (λ t. (moved_as X F p x d t).info) q);
-        notes_are = n ∙ sym (upd_own F.notes p (moved X F p x).notes (ap (λ t. (moved_as X F p x d t).notes) q));
-        node_picks = T.node_picks;
-        party_picks = T.party_picks;
-        tells = sym (ap (λ t. (moved_as X F p x d t).outcome) q);
-      }
-
-  -- what is not walking settles nothing
-  pub settles_nothing : {read : NodeRead D} → r ≡ Settles read → is_walking (F.store.run p) ≡ false → ⊥
-  settles_nothing e w =
-      let at_once = told_at_once W X.parties X.nodes F.store F.info p T.pick w in
-      let f = T.told in
-      let h = at_once.1 in
-      let z : ◌≡◌ {A = ℕ} 0 1 = cc in
-      omega arith
 
 -- party p of the cells c
 module _ {D : Type 0} (suits : D → PerKid Bool → Bool) (c : Cells D) (p : ℕ) where
@@ -124,7 +93,7 @@ refused_walk kind node_order party_order p w before lists e f told = record {
 }
 
 -- systems with equal parts
-same_system : {D W A B : Type 0} {s s' : Store D} {i i' : ℕ → D} {n n' : ℕ → Notes W} {u u' : A} {v v' : B} → s ≡ s' → i ≡ i' → n ≡ n' → u ≡ u' → v ≡ v'
+pub same_system : {D W A B : Type 0} {s s' : Store D} {i i' : ℕ → D} {n n' : ℕ → Notes W} {u u' : A} {v v' : B} → s ≡ s' → i ≡ i' → n ≡ n' → u ≡ u' → v ≡ v'
     → ◌≡◌ {A = System D W A B} (record { store = s; info = i; notes = n; node_order = u; party_order = v }) (record { store = s'; info = i'; notes = n'; node_order = u'; party_order = v' })
 same_system es ei en eu ev = cc
 

@@ -4,12 +4,14 @@ use Rattle.std.specs.Option.{is_some}
 use Rattle.std.proofs.lemmas.Bool.{and_from, le-leb, cond-true}
 use Rattle.kinds.specs.declared.kind.Kind.{Ghosts as KindMeaning}
 use Rattle.kinds.specs.declared.kids.Kid.{Kid}
+use Rattle.orders.specs.declared.order.Order.{Ghosts as OrderMeaning}
 use Rattle.model.specs.declared.outcomes.Answer.TheVariants.{WorthIs}
 use Rattle.model.specs.declared.outcomes.Progress.TheVariants.{StillRunning, Ended}
 use Rattle.model.specs.declared.words.NodeRead.{NodeRead}
 use Rattle.model.specs.Types.{Outcome}
 use Rattle.model.specs.Checks.{is_idle}
 use Rattle.model.specs.Entries.{nth}
+use Rattle.model.specs.Setting.{setting_for}
 use Rattle.model.specs.State.{Store, last}
 use Rattle.model.specs.Steps.{between}
 use Rattle.model.specs.Walks.{Notes, marked, first_unmarked, noted}
@@ -17,7 +19,9 @@ use Rattle.cells.specs.Walked.{goes_on}
 use Rattle.walks.specs.declared.notes.Notes.{Notes as Lists}
 use Rattle.walks.specs.Notes.{marks_of, marks_alone, has_entries, worked_out}
 use Rattle.walks.proofs.Noting.{marks_alone_tell}
-use Rattle.store.specs.Settled.{noted_on, Settled}
+use Rattle.store.specs.Moved.{noted_on}
+use Rattle.store.specs.Settled.{Settled}
+use Rattle.store.proofs.WalkTurns.{goes, goes_on_lem}
 
 -- each node has its entries on lists that are long enough
 entries_stand : {W : Type 0} (M n : ℕ) (lists : Lists W) → between 1 M n ≡ true → M ≤ length lists.marks.now → M ≤ length lists.worths.now → has_entries M lists.marks.now lists.worths.now n ≡ true
@@ -57,12 +61,13 @@ module _ {K D W : Type 0} (kind : KindMeaning K D W) (M n : ℕ) (lists lists' :
   last_noted None h told set e w lm lw f es = ap (noted_on kind M) es ∙ f (e ∙ entries_stand M n lists w lm lw)
 
   -- the parts joined
-  pub settled_as : (N : ℕ) (s t : Store D) (p : ℕ) (below : Option Kid) → between 1 N p ≡ true → below ≡ first_unmarked (marks_alone M lists.marks.now) read.kids → t ≡ cond (between 1 N p) (goes_on s p read.situation below) s → n ≡ last s p → after ≡ noted_for below
-      → (told : Bool) → told ≡ is_idle (t.run p) → (r : Outcome D W) → r ≡ cond told (ending kind M lists' n) (Ok StillRunning) → Settled kind M s t p read lists lists' r
-  settled_as N s t p below h eb et en ea told ei r er = record {
-    below = below;
-    below_is = eb ∙ marks_alone_tell kind.none M lists.marks.now lists.worths.now read.kids;
-    goes = et ∙ cond-true (between 1 N p) (goes_on s p read.situation below) s h;
-    notes = ea ∙ ap (λ m. elim below as (λ _. Notes W) [ Some k ↦ before | None ↦ noted before m (worked_out kind.worth kind.none before read) ]) en;
-    tells = er ∙ ap (λ b. cond b (ending kind M lists' n) (Ok StillRunning)) ei ∙ ap (λ m. cond (is_idle (t.run p)) (ending kind M lists' m) (Ok StillRunning)) en;
-  }
+  pub settled_as : {A B : Type 0} (node_order : OrderMeaning A) (party_order : OrderMeaning B) (N : ℕ) (s t : Store D) (p : ℕ) (below : Option Kid) → between 1 N p ≡ true → below ≡ first_unmarked (marks_alone M lists.marks.now) read.kids
+      → t ≡ cond (between 1 N p) (goes_on s p read.situation below) s → n ≡ last s p → after ≡ noted_for below
+      → (told : Bool) → told ≡ is_idle (t.run p) → (r : Outcome D W) → r ≡ cond told (ending kind M lists' n) (Ok StillRunning) → Settled (setting_for kind node_order party_order N M) s t p read before after r
+  settled_as node_order party_order N s t p below h eb et en ea told ei r er =
+      let eb' : below ≡ first_unmarked before read.kids = eb ∙ marks_alone_tell kind.none M lists.marks.now lists.worths.now read.kids in
+      record {
+        goes = et ∙ cond-true (between 1 N p) (goes_on s p read.situation below) s h ∙ goes_on_lem kind.worth kind.none s p read.situation below ∙ ap (goes kind.worth kind.none s p read.situation s) eb';
+        notes = ea ∙ ap noted_for eb' ∙ ap (λ m. elim (first_unmarked before read.kids) as (λ _. Notes W) [ Some k ↦ before | None ↦ noted before m (worked_out kind.worth kind.none before read) ]) en;
+        tells = er ∙ ap (λ b. cond b (ending kind M lists' n) (Ok StillRunning)) ei ∙ ap (λ m. cond (is_idle (t.run p)) (ending kind M lists' m) (Ok StillRunning)) en;
+      }

@@ -1,5 +1,5 @@
 -- A walk's Turn: it keeps the store sound, settles a node of the store, and is a step of the model.
-use Rattle.std.proofs.Common.{◌≡◌, ℕ, true, Some, None, sym, refl, ap, ◌∙◌, subst, true≢false}
+use Rattle.std.proofs.Common.{◌≡◌, ℕ, true, None, sym, refl, ap, ◌∙◌, subst, true≢false}
 use mathlib.Core.Logic.{∥∥₁_elim}
 use mathlib.Core.Bool.{Bool-set}
 use Rattle.kinds.specs.declared.kind.Kind.{Ghosts as KindMeaning}
@@ -10,8 +10,6 @@ use Rattle.model.specs.declared.running.Running.{Running}
 use Rattle.model.specs.declared.running.Running.TheVariants.{WalkReads, WalkGoesDown}
 use Rattle.model.specs.declared.sizes.Sizes.{Sizes}
 use Rattle.model.specs.declared.words.NodeRead.{NodeRead}
-use Rattle.model.specs.declared.words.Told.{Told}
-use Rattle.model.specs.declared.words.Told.TheVariants.{Settles}
 use Rattle.model.specs.Fun.{upd}
 use Rattle.model.specs.Checks.{is_walking, walk_turn_fault}
 use Rattle.model.specs.Runs.{System, Steps}
@@ -19,7 +17,7 @@ use Rattle.model.specs.Setting.{Setting, setting_for}
 use Rattle.model.specs.Sound.{Sound, on_trail}
 use Rattle.model.specs.State.{Store, last}
 use Rattle.model.specs.Steps.{between}
-use Rattle.model.specs.Walks.{Notes, first_unmarked, noted}
+use Rattle.model.specs.Walks.{Notes}
 use Rattle.model.proofs.Accepted.{walk_turn_passed, walk_turn_walks}
 use Rattle.model.proofs.Kept.{moved_sound}
 use Rattle.model.proofs.Reached.{reached_held}
@@ -28,10 +26,10 @@ use Rattle.model.proofs.Sums.{upd_same}
 use Rattle.model.proofs.Trails.{last_reached}
 use Rattle.cells.proofs.Views.{upd_twice}
 use Rattle.walks.specs.declared.notes.Notes.{Notes as Lists}
-use Rattle.walks.specs.Notes.{worked_out}
-use Rattle.store.specs.Settled.{noted_on, Settled}
-use Rattle.store.specs.Taken.{Taken}
-use Rattle.store.proofs.WalkTurns.{last_then, settles_at_turn}
+use Rattle.store.specs.Moved.{noted_on}
+use Rattle.store.specs.Settled.{Settled}
+use Rattle.store.specs.Taken.{HasRead}
+use Rattle.store.proofs.WalkTurns.{settles_at_turn}
 
 -- a walk's Turn is checked against the same sizes and lengths, and the same call that runs
 pub same_walk_fault : {D : Type 0} {N M : ℕ} (p : ℕ) {z : Sizes} {l l' : Lengths} {r r' : Running D} → z ≡ record { parties = N; nodes = M } → l ≡ l' → r ≡ r' → walk_turn_fault N M p l' r' ≡ walk_turn_fault z.parties z.nodes p l r
@@ -52,28 +50,27 @@ module _ {D W A B : Type 0} {X : Setting D W A B} {F G : System D W A B} {p : �
       subst (Sound X.parties X.nodes) (sym m.store_is) (moved_sound X F S p u.0 u.1 m.pick (F.store.run p) refl u.2)
 
   -- and settles a node of the store
-  pub settles_at_node : {told : Told D W} {read : NodeRead D} {m : ℕ} → ∥ Sound X.parties X.nodes F.store ∥₁ → Taken X F G p told → told ≡ Settles read → m ≡ X.nodes → between 1 m (last G.store p) ≡ true
-  settles_at_node {told} {read} {m} t T e em =
+  pub settles_at_node : {read : NodeRead D} {m : ℕ} → ∥ Sound X.parties X.nodes F.store ∥₁ → HasRead X F G p read → m ≡ X.nodes → between 1 m (last G.store p) ≡ true
+  settles_at_node t h em =
       let u = walk_turn_passed X.parties X.nodes p l (F.store.run p) passed in
       let w = walk_turn_walks X.parties X.nodes p l (F.store.run p) passed in
       let n = last F.store p in
       let stands : between 1 X.nodes n ≡ true = ∥∥₁_elim t (Bool-set (between 1 X.nodes n) true)
-      (λ S. let h = reached_held X.parties X.nodes F.store S.inv (last_reached X.parties X.nodes F.store S p u.0 u.1 (on_trail_when_walking (F.store.run p) w)) in is_within 1 X.nodes n h.pos h.low) in
-      ap (λ k. between 1 k (last G.store p)) em ∙ ap (between 1 X.nodes) (last_then X F G G p told read T e) ∙ stands
+      (λ S. let held = reached_held X.parties X.nodes F.store S.inv (last_reached X.parties X.nodes F.store S p u.0 u.1 (on_trail_when_walking (F.store.run p) w)) in is_within 1 X.nodes n held.pos held.low) in
+      ap (λ k. between 1 k (last G.store p)) em ∙ ap (λ H. between 1 X.nodes (last H.store p)) h.waits ∙ stands
 
 -- the reading that settles a node, and the settling, are one step of the model
-pub settled_step : {K D W A B : Type 0} (kind : KindMeaning K D W) (node_order : OrderMeaning A) (party_order : OrderMeaning B) (N M : ℕ) (notes : ℕ → Notes W)
-    {F G : System D W A B} {t : Store D} {p m : ℕ} {told : Told D W} {read : NodeRead D} {lists lists' : Lists W} {o : Outcome D W}
-    → F.notes ≡ upd notes p (noted_on kind M lists) → Taken (setting_for kind node_order party_order N M) F G p told → told ≡ Settles read → m ≡ M → Settled kind m G.store t p read lists lists' o
+pub settled_step : {K D W A B : Type 0} (kind : KindMeaning K D W) (node_order : OrderMeaning A) (party_order : OrderMeaning B) (N M : ℕ) (notes : ℕ → Notes W) (lists lists' : Lists W)
+    {F G : System D W A B} {t : Store D} {p k m : ℕ} {read : NodeRead D} {o : Outcome D W}
+    → F.notes ≡ upd notes p (noted_on kind M lists) → HasRead (setting_for kind node_order party_order N M) F G p read → k ≡ N → m ≡ M
+    → Settled (setting_for kind node_order party_order k m) G.store t p read (noted_on kind m lists) (noted_on kind m lists') o
     → Steps (setting_for kind node_order party_order N M) F p o (record { store = t; info = G.info; notes = upd notes p (noted_on kind M lists'); node_order = G.node_order; party_order = G.party_order })
-settled_step {K} {D} {W} {A} {B} kind node_order party_order N M notes {F} {G} {t} {p} {m} {told} {read} {lists} {lists'} {o} en T e em settled =
-    let S = subst (λ k. Settled kind k G.store t p read lists lists' o) em settled in
+settled_step {W = W} kind node_order party_order N M notes lists lists' {F} {G} {t} {p} {k} {m} {read} {o} en h ek em settled =
+    let X = setting_for kind node_order party_order N M in
     let old : Notes W = noted_on kind M lists in
     let later : Notes W = noted_on kind M lists' in
     let own : F.notes p ≡ old = ap (λ f. f p) en ∙ upd_same notes p old in
-    let H : System D W A B = record { store = t; info = G.info; notes = upd notes p later; node_order = G.node_order; party_order = G.party_order } in
-    settles_at_turn (setting_for kind node_order party_order N M) F G H p told read T e S.below later o
-    (S.below_is ∙ ap (λ n. first_unmarked n read.kids) (sym own)) S.goes refl refl refl
-    (S.notes ∙ ap (λ (n : Notes W). elim S.below as (λ _. Notes W) [ Some k ↦ n | None ↦ noted n (last G.store p) (worked_out kind.worth kind.none n read) ]) (sym own))
-    (sym (upd_twice notes p old later) ∙ ap (λ f. upd f p later) (sym en))
-    S.tells
+    let sized = subst (λ j. Settled (setting_for kind node_order party_order N j) G.store t p read (noted_on kind j lists) (noted_on kind j lists') o) em
+    (subst (λ j. Settled (setting_for kind node_order party_order j m) G.store t p read (noted_on kind m lists) (noted_on kind m lists') o) ek settled) in
+    subst (λ f. Steps X F p o (record { store = t; info = G.info; notes = f; node_order = G.node_order; party_order = G.party_order })) (ap (λ f. upd f p later) en ∙ upd_twice notes p old later)
+    (settles_at_turn h (subst (λ n. Settled X G.store t p read n later o) (sym own) sized))

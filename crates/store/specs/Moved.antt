@@ -8,7 +8,6 @@ use Rattle.model.specs.declared.calls.Event.{Event}
 use Rattle.model.specs.declared.calls.Event.TheVariants.{Begins, Turns, WalkTurns}
 use Rattle.model.specs.declared.calls.Lengths.{Lengths}
 use Rattle.model.specs.declared.calls.Walk.{Walk}
-use Rattle.model.specs.declared.words.Told.{Told}
 use Rattle.model.specs.Types.{Outcome}
 use Rattle.model.specs.Entries.{nth}
 use Rattle.model.specs.Fun.{upd}
@@ -20,7 +19,6 @@ use Rattle.walks.specs.Notes.{notes_of}
 use Rattle.cells.specs.declared.records.Cells.{Cells}
 use Rattle.cells.specs.View.{SameSizes, parties_of, nodes_of}
 use Rattle.store.specs.Given.{system_of}
-use Rattle.store.specs.Taken.{Taken}
 
 -- a store with the data list that it is given
 pub record Shown (D A B : Type 0) : Type 0 where
@@ -28,6 +26,10 @@ pub record Shown (D A B : Type 0) : Type 0 where
   pub nodes : A
   pub parties : B
   pub entries : List D
+
+-- what a walk has noted of M nodes on its two lists
+abbrev pub noted_on : {K D W : Type 0} → KindMeaning K D W → ℕ → Lists W → Notes W
+noted_on kind M lists = notes_of kind.none M lists.marks.now lists.worths.now
 
 -- entries past those of the store's nodes hold what they held
 abbrev pub FurtherStay : {K D W : Type 0} → KindMeaning K D W → ℕ → Lists W → Lists W → Type 0
@@ -40,12 +42,6 @@ module _ {K D W A B : Type 0} (kind : KindMeaning K D W) (node_order : OrderMean
       Moves (setting_for kind node_order party_order (parties_of before.cells) (nodes_of before.cells))
       (system_of kind before.cells before.nodes before.parties before.entries notes) e o
       (system_of kind after.cells after.nodes after.parties after.entries notes')
-
-  -- an accepted step of a party; of a walk's notes it says nothing
-  pub record TakesStep (p : ℕ) (told : Told D W) (before after : Shown D A B) : Type 0 where
-    pub taken : (notes : ℕ → Notes W) → Taken (setting_for kind node_order party_order (parties_of before.cells) (nodes_of before.cells))
-        (system_of kind before.cells before.nodes before.parties before.entries notes) (system_of kind after.cells after.nodes after.parties after.entries notes) p told
-    pub sizes : SameSizes before.cells after.cells
 
   -- the Begin of a call, which looks at the data list's length alone; nobody's notes change
   pub record BeginsCall (p : ℕ) (c : Call D) (o : Outcome D W) (before after : Shown D A B) : Type 0 where
@@ -63,7 +59,7 @@ module _ {K D W A B : Type 0} (kind : KindMeaning K D W) (node_order : OrderMean
 
   -- everybody's notes, the party's own on its two lists
   abbrev pub with_lists : (ℕ → Notes W) → ℕ → Shown D A B → Lists W → ℕ → Notes W
-  with_lists notes p before lists = upd notes p (notes_of kind.none (nodes_of before.cells) lists.marks.now lists.worths.now)
+  with_lists notes p before lists = upd notes p (noted_on kind (nodes_of before.cells) lists)
 
   -- the Begin of a walk, which takes marks off and leaves the worths; its notes stand on its two lists, and nobody else's change
   pub record BeginsWalk (p : ℕ) (w : Walk) (o : Outcome D W) (before after : Shown D A B) (lists lists' : Lists W) : Type 0 where

@@ -2,11 +2,8 @@
 ghost use Rattle.std.specs.Prelude.{◌≡◌, ℕ, ◌≤◌, false, length};
 ghost use Rattle.model.specs.Checks.{is_idle};
 ghost use Rattle.model.specs.Runs.{Asks, asks_nodes, asks_parties};
-ghost use Rattle.model.specs.Walks.{Notes};
 ghost use Rattle.cells.specs.View.{view_of, parties_of, nodes_of, SameSizes};
-ghost use Rattle.model.specs.Setting.{meaning_of, setting_for};
-ghost use Rattle.store.specs.Given.{system_of};
-ghost use Rattle.store.specs.Taken.{Taken};
+ghost use Rattle.model.specs.Setting.{meaning_of};
 
 use crate::store::Store;
 use kinds::kind::Kind;
@@ -34,8 +31,8 @@ fn pick<D: Copy, U: Order, V: Order>(
 }
 
 impl<K: Kind, U: Order + Drop, V: Order + Drop> Store<K, U, V> {
-    ghost use Rattle.store.specs.Moved.{TakesStep};
     ghost use Rattle.store.specs.Shown.{shown};
+    ghost use Rattle.store.specs.Taken.{TakesStep};
 
     // The next step of what the party is running.
     pub(crate) fn take_step(

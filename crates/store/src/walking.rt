@@ -1,7 +1,6 @@
 ghost use Rattle.std.specs.Prelude.{◌≡◌, length};
 ghost use Rattle.walks.specs.Notes.{SameLists};
 
-use crate::settling::settle;
 use crate::store::Store;
 use checks::begins::check_begin_walk;
 use checks::turns::check_turn_walk;
@@ -55,7 +54,7 @@ impl<K: Kind, U: Order + Drop, V: Order + Drop> Store<K, U, V> {
             Told::Tells(outcome) => outcome,
             Told::Settles(read) => {
                 let nodes = self.nodes();
-                settle::<K>(&mut self.cells, nodes, party, read, notes)
+                Self::settle(&mut self.cells, nodes, party, read, notes)
             }
         }
     }

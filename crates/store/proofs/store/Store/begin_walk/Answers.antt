@@ -8,8 +8,7 @@ use Rattle.model.proofs.Begins.{sound_started_walk}
 use Rattle.cells.specs.View.{nodes_of}
 use Rattle.checks.specs.Faults.{begin_fault_of}
 use Rattle.walks.specs.Notes.{marks_of}
-use Rattle.store.specs.Moved.{walk_lengths}
-use Rattle.store.specs.Settled.{noted_on}
+use Rattle.store.specs.Moved.{noted_on, walk_lengths}
 use Rattle.store.specs.Shown.{shown}
 use Rattle.store.proofs.Accepted.{still_a_store}
 use Rattle.store.proofs.Moving.{fault_of, no_party_fault, fault_is, starts, refused_walk, walk_begins}

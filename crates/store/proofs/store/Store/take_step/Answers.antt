@@ -1,9 +1,10 @@
-use Rattle.std.proofs.Common.{ℕ, subst}
+use Rattle.std.proofs.Common.{ℕ, refl, subst}
 use Rattle.model.specs.Runs.{Asks, asks_nodes, asks_parties}
 use Rattle.model.specs.Setting.{meaning_of}
 use Rattle.model.proofs.Stepped.{sound_stepped}
 use Rattle.store.specs.Given.{zero_data}
 use Rattle.store.proofs.Accepted.{still_a_store, is_taken, some_told}
+use Rattle.store.proofs.WalkTurns.{taken_as}
 use Rattle.store.proofs.store.Store.take_step.Goals as goal
 
 pub invariant_of-self : goal.invariant_of-self
@@ -26,13 +27,9 @@ returns g c =
     let x : ℕ = c.pick-number.result in
     let runs = c.running-running.ensures in
     record {
-      taken = λ notes. record {
-        pick = x;
-        store_is = h.store_is;
-        info_is = h.info_is;
-        node_picks = subst (λ r. Asks (meaning_of g.U.Order) (asks_nodes r) s.node_order c.pick-number.new.node_order c.args.party x) runs c.pick-number.ensures.nodes;
-        party_picks = subst (λ r. Asks (meaning_of g.V.Order) (asks_parties r) s.party_order c.pick-number.new.party_order c.args.party x) runs c.pick-number.ensures.parties;
-        told = let f = h.told in let u = c.unwrap.ensures in cc;
-      };
+      taken = λ notes. taken_as _ _ _ _ x h.store_is h.info_is refl
+          (subst (λ r. Asks (meaning_of g.U.Order) (asks_nodes r) s.node_order c.pick-number.new.node_order c.args.party x) runs c.pick-number.ensures.nodes)
+          (subst (λ r. Asks (meaning_of g.V.Order) (asks_parties r) s.party_order c.pick-number.new.party_order c.args.party x) runs c.pick-number.ensures.parties)
+          c.unwrap.result (let f = h.told in let u = c.unwrap.ensures in cc);
       sizes = c.step.ensures.sizes;
     }

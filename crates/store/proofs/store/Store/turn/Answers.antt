@@ -5,7 +5,8 @@ use Rattle.model.specs.Checks.{turn_fault}
 use Rattle.model.specs.Runs.{turn_refused, turn}
 use Rattle.model.proofs.Accepted.{turn_walks_not}
 use Rattle.cells.specs.View.{view_of, parties_of, nodes_of}
-use Rattle.store.proofs.Moving.{no_notes, fault_of_entries, tells_at_turn, settles_nothing}
+use Rattle.store.proofs.Moving.{no_notes, fault_of_entries}
+use Rattle.store.proofs.WalkTurns.{tells_at_turn, settles_nothing}
 use Rattle.store.proofs.store.Store.turn.Given.{Over}
 use Rattle.store.proofs.store.Store.turn.Goals.{After-check_turn}
 use Rattle.store.proofs.store.Store.turn.Goals as goal
@@ -29,13 +30,13 @@ unreachable-requires g c =
     let s = c.args.self.now in
     let l : Lengths = record { entries = length c.args.data.now; marks = 0; worths = 0 } in
     let passed = fault g (goal.at.unreachable-requires g c).After-check_turn l refl ∙ c.in_ok-check_turn.ensures in
-    settles_nothing (c.take_step.ensures.taken (no_notes g.K.Kind.none)) c.in-Settles.is
+    settles_nothing _ _ _ _ (c.take_step.ensures.taken (no_notes g.K.Kind.none)) c.in-Settles.is
     (turn_walks_not (parties_of s.cells) (nodes_of s.cells) c.args.party l ((view_of s.cells).run c.args.party) passed)
 
 pub returns : goal.returns
 returns g c =
     let f = fault g (goal.at.returns g c).After-check_turn in
     record {
-      moves = λ notes l e. turn (f l e ∙ c.in_ok-check_turn.ensures) (tells_at_turn (c.take_step.ensures.taken notes) c.in-Tells.is refl);
+      moves = λ notes l e. turn (f l e ∙ c.in_ok-check_turn.ensures) (tells_at_turn _ _ _ _ (c.take_step.ensures.taken notes) c.in-Tells.is);
       sizes = c.take_step.ensures.sizes;
     }

@@ -7,11 +7,11 @@ use Rattle.model.specs.Setting.{setting_for}
 use Rattle.model.specs.Walks.{Notes}
 use Rattle.cells.specs.View.{view_of, parties_of, nodes_of}
 use Rattle.store.specs.Given.{system_of}
-use Rattle.store.specs.Moved.{walk_lengths, with_lists}
-use Rattle.store.specs.Settled.{noted_on}
+use Rattle.store.specs.Moved.{noted_on, walk_lengths, with_lists}
 use Rattle.store.specs.Shown.{shown}
 use Rattle.store.proofs.Accepted.{sizes_twice, still_a_store}
-use Rattle.store.proofs.Moving.{no_notes, tells_at_turn}
+use Rattle.store.proofs.Moving.{no_notes}
+use Rattle.store.proofs.WalkTurns.{has_read, tells_at_turn}
 use Rattle.store.proofs.WalkSteps.{same_walk_fault, walk_keeps_sound, settles_at_node, settled_step}
 use Rattle.store.proofs.store.Store.turn_walk.Given.{Over}
 use Rattle.store.proofs.store.Store.turn_walk.Goals.{After-take_step, After-settle}
@@ -29,8 +29,8 @@ settled : (g : Over) (c : After-settle g) (notes : ℕ → Notes g.row.K-Worth.D
 settled g c notes =
     let s = c.args.self.now in
     let M : ℕ = nodes_of s.cells in
-    settled_step g.K.Kind g.U.Order g.V.Order (parties_of s.cells) M notes refl (c.take_step.ensures.taken (upd notes c.args.party (noted_on g.K.Kind M c.args.notes.now))) c.in-Settles.is
-    (c.nodes-nodes.ensures ∙ c.take_step.ensures.sizes.nodes) c.settle.ensures.settled
+    settled_step g.K.Kind g.U.Order g.V.Order (parties_of s.cells) M notes c.args.notes.now c.settle.new.notes refl (has_read _ _ _ _ (c.take_step.ensures.taken (upd notes c.args.party (noted_on g.K.Kind M c.args.notes.now))) c.in-Settles.is)
+    c.take_step.ensures.sizes.parties (c.nodes-nodes.ensures ∙ c.take_step.ensures.sizes.nodes) c.settle.ensures.settled
 
 pub returns-in_err-check_turn_walk-clause-turns : goal.returns-in_err-check_turn_walk-clause-turns
 returns-in_err-check_turn_walk-clause-turns g c =
@@ -44,7 +44,7 @@ returns-in_err-check_turn_walk-clause-turns g c =
 
 pub settle-requires-clause-node : goal.settle-requires-clause-node
 settle-requires-clause-node g c =
-    settles_at_node _ (passed g (goal.at.settle-requires-clause-node g c).After-take_step) c.args.self.now.sound (c.take_step.ensures.taken (no_notes g.K.Kind.none)) c.in-Settles.is
+    settles_at_node _ (passed g (goal.at.settle-requires-clause-node g c).After-take_step) c.args.self.now.sound (has_read _ _ _ _ (c.take_step.ensures.taken (no_notes g.K.Kind.none)) c.in-Settles.is)
     (c.nodes-nodes.ensures ∙ c.take_step.ensures.sizes.nodes)
 
 pub invariant_of-self : goal.invariant_of-self
@@ -56,7 +56,7 @@ invariant_of-self g c =
 pub returns-in-Tells-clause-turns : goal.returns-in-Tells-clause-turns
 returns-in-Tells-clause-turns g c = record {
   moves = λ notes. walk_turn (passed g (goal.at.returns-in-Tells-clause-turns g c).After-take_step)
-      (tells_at_turn (c.take_step.ensures.taken (with_lists g.K.Kind g.U.Order g.V.Order notes c.args.party (shown c.args.self.now c.args.data.now) c.args.notes.now)) c.in-Tells.is refl);
+      (tells_at_turn _ _ _ _ (c.take_step.ensures.taken (with_lists g.K.Kind g.U.Order g.V.Order notes c.args.party (shown c.args.self.now c.args.data.now) c.args.notes.now)) c.in-Tells.is);
   further = λ n h. (refl, refl);
   sizes = c.take_step.ensures.sizes;
 }
