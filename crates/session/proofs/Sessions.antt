@@ -1,5 +1,5 @@
 -- From a command over one party's lists to a move of the whole session.
-use Rattle.std.proofs.Common.{◌≡◌, ℕ, ◌-◌, ◌<◌, ◌≤◌, Bool, true, false, not, ◌||◌, ltb, List, [], ◌∷◌, Some, length, map, set, get_or, sym, refl, ap, ◌∙◌, subst, arith}
+use Rattle.std.proofs.Common.{◌≡◌, ℕ, ◌-◌, ◌<◌, ◌≤◌, Bool, false, not, ◌||◌, ltb, List, [], ◌∷◌, Some, length, map, set, get_or, sym, refl, ap, ◌∙◌, subst, arith}
 use Rattle.std.specs.Prelude.{All, vec_items}
 use Rattle.std.specs.Vec.{with_items}
 use Rattle.std.proofs.lemmas.List.{map-set, length-map, get_or-map}
@@ -18,7 +18,6 @@ use Rattle.model.specs.Walks.{Notes}
 use Rattle.model.specs.Runs.{System, Moves}
 use Rattle.model.specs.Setting.{setting_for, Setting}
 use Rattle.model.specs.Steps.{between}
-use Rattle.model.proofs.Between.{within}
 use Rattle.model.proofs.Frames.{upd_all}
 use Rattle.model.proofs.EntryLemmas.{nth_set, nth_read}
 use Rattle.cells.proofs.Views.{upd_own}
@@ -28,11 +27,6 @@ use Rattle.session.specs.declared.lists.WalkLists.{WalkLists}
 use Rattle.session.specs.Lent.{Carries, CarriesWalk, noted_in, nothing_noted, all_noted}
 use Rattle.session.specs.Lists.{AnEntryEach}
 use Rattle.session.proofs.Lent.{sys}
-
--- what is no party's number
-pub no_party : (N p : ℕ) → (b : Bool) → between 1 N p ≡ b → (1 ≤ p → p ≤ N → ⊥) → b ≡ false
-no_party N p false e h = refl
-no_party N p true e h = let u = within 1 N p e in absurd (h u.0 u.1)
 
 -- a walk's Turn of what is no party is refused so, whatever else is wrong
 pub no_party_to_turn : {D : Type 0} (c : Cells D) (p : ℕ) (l : Lengths) → between 1 (parties_of c) p ≡ false → walk_turn_fault (parties_of c) (nodes_of c) p l ((view_of c).run p) ≡ Some NoSuchParty
@@ -81,38 +75,39 @@ module _ {K D W A B : Type 0} (kind : KindMeaning K D W) (node_order : OrderMean
     pub leaves_worths : SameSizes before.cells after.cells → (q : ℕ) → (all_noted kind (nodes_of after.cells) walks q).worths ≡ (all_noted kind M walks q).worths
     leaves_worths z q = ap (λ m. (all_noted kind m walks q).worths) z.nodes
 
-    -- one party's lists among all
-    own_noted : (p : ℕ) (own : WalkLists W) → 1 ≤ p → p ≤ length walks → own ≡ get_or walks (p - 1) own → all_noted kind M walks p ≡ noted_in kind M own
-    own_noted p own low high is =
+    -- one party's lists among all, at the place i
+    own_noted : (p i : ℕ) (own : WalkLists W) → 1 ≤ p → p ≤ length walks → i ≡ p - 1 → own ≡ get_or walks i own → all_noted kind M walks p ≡ noted_in kind M own
+    own_noted p i own low high at is =
         let note = noted_in kind M in
-        nth_read nothing (map note walks) p low ∙ get_or-map note walks (p - 1) own nothing (omega arith) ∙ ap note (sym is)
+        nth_read nothing (map note walks) p low ∙ ap (λ j. get_or (map note walks) j nothing) (sym at) ∙ get_or-map note walks i own nothing (omega arith) ∙ ap note (sym is)
 
     -- changed
-    own_changed : (p : ℕ) (own' : WalkLists W) → 1 ≤ p → p ≤ length walks → upd (all_noted kind M walks) p (noted_in kind M own') ≡ all_noted kind M (set walks (p - 1) own')
-    own_changed p own' low high =
+    own_changed : (p i : ℕ) (own' : WalkLists W) → 1 ≤ p → p ≤ length walks → i ≡ p - 1 → upd (all_noted kind M walks) p (noted_in kind M own') ≡ all_noted kind M (set walks i own')
+    own_changed p i own' low high at =
         let note = noted_in kind M in
-        sym (nth_set nothing (map note walks) p (note own') low (let l = length-map walks note in omega (arith, l))) ∙ ap (nth nothing) (sym (map-set note walks (p - 1) own'))
+        sym (nth_set nothing (map note walks) p (note own') low (let l = length-map walks note in omega (arith, l))) ∙ ap (λ j. nth nothing (set (map note walks) j (note own'))) (sym at)
+        ∙ ap (nth nothing) (sym (map-set note walks i own'))
 
     -- a command that writes no worth on one party's lists
-    pub own_worths : (p : ℕ) (own own' : WalkLists W) → 1 ≤ p → p ≤ length walks → own ≡ get_or walks (p - 1) own → vec_items own'.worths ≡ vec_items own.worths → SameSizes before.cells after.cells
-        → (q : ℕ) → (all_noted kind (nodes_of after.cells) (set walks (p - 1) own') q).worths ≡ (all_noted kind M walks q).worths
-    own_worths p own own' low high is same z q =
+    pub own_worths : (p i : ℕ) (own own' : WalkLists W) → 1 ≤ p → p ≤ length walks → i ≡ p - 1 → own ≡ get_or walks i own → vec_items own'.worths ≡ vec_items own.worths → SameSizes before.cells after.cells
+        → (q : ℕ) → (all_noted kind (nodes_of after.cells) (set walks i own') q).worths ≡ (all_noted kind M walks q).worths
+    own_worths p i own own' low high at is same z q =
         let all = all_noted kind M walks in
         let changed = noted_in kind M own' in
-        let own_same : changed.worths ≡ (all p).worths = ap (nth kind.none) same ∙ sym (ap (λ n. n.worths) (own_noted p own low high is)) in
-        ap (λ m. (all_noted kind m (set walks (p - 1) own') q).worths) z.nodes ∙ sym (ap (λ f. (f q).worths) (own_changed p own' low high))
+        let own_same : changed.worths ≡ (all p).worths = ap (nth kind.none) same ∙ sym (ap (λ n. n.worths) (own_noted p i own low high at is)) in
+        ap (λ m. (all_noted kind m (set walks i own') q).worths) z.nodes ∙ sym (ap (λ f. (f q).worths) (own_changed p i own' low high at))
         ∙ upd_all (λ r n. n.worths ≡ (all r).worths) all p changed own_same q (λ _. refl)
 
     -- a command that changes one party's
-    pub changes_own : {e : Event D} {o : Outcome D W} (p : ℕ) (own own' : WalkLists W) → 1 ≤ p → p ≤ length walks → own ≡ get_or walks (p - 1) own
+    pub changes_own : {e : Event D} {o : Outcome D W} (p i : ℕ) (own own' : WalkLists W) → 1 ≤ p → p ≤ length walks → i ≡ p - 1 → own ≡ get_or walks i own
         → CarriesWalk kind node_order party_order p e o before after (vec_items own.marks) (vec_items own'.marks) (vec_items own.worths) (vec_items own'.worths)
-        → Moves X (sys kind node_order party_order before (all_noted kind M walks)) e o (sys kind node_order party_order after (all_noted kind (nodes_of after.cells) (set walks (p - 1) own')))
-    changes_own {e} {o} p own own' low high is h =
+        → Moves X (sys kind node_order party_order before (all_noted kind M walks)) e o (sys kind node_order party_order after (all_noted kind (nodes_of after.cells) (set walks i own')))
+    changes_own {e} {o} p i own own' low high at is h =
         let all = all_noted kind M walks in
         let note = noted_in kind M in
         let c = h.carries all in
-        let first : upd all p (note own) ≡ all = upd_own all p (note own) (sym (own_noted p own low high is)) in
-        let then : upd all p (note own') ≡ all_noted kind M (set walks (p - 1) own') = own_changed p own' low high in
-        same_size (sys kind node_order party_order before all) (set walks (p - 1) own') c.sizes
-        (subst (λ n. Moves X (sys kind node_order party_order before n) e o (sys kind node_order party_order after (all_noted kind M (set walks (p - 1) own')))) first
+        let first : upd all p (note own) ≡ all = upd_own all p (note own) (sym (own_noted p i own low high at is)) in
+        let then : upd all p (note own') ≡ all_noted kind M (set walks i own') = own_changed p i own' low high at in
+        same_size (sys kind node_order party_order before all) (set walks i own') c.sizes
+        (subst (λ n. Moves X (sys kind node_order party_order before n) e o (sys kind node_order party_order after (all_noted kind M (set walks i own')))) first
         (subst (λ n. Moves X (sys kind node_order party_order before (upd all p (note own))) e o (sys kind node_order party_order after n)) then c.moves))

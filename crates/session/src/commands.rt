@@ -1,3 +1,7 @@
+ghost use Rattle.std.specs.Prelude.{◌≡◌, ◌-◌, ◌≤◌, false, MatchResult};
+ghost use Rattle.refusals.specs.declared.Refusal.TheVariants.{NoSuchParty};
+ghost use Rattle.model.specs.Steps.{between};
+
 use crate::lending::{begin, begin_walk, turn, turn_walk};
 use crate::session::Session;
 use kinds::kind::Kind;
@@ -38,12 +42,8 @@ impl<K: Kind, U: Order + Drop, V: Order + Drop> Session<K, U, V> {
     ) -> Outcome<K::Data, K::Worth>
         ensures { CarriesOut (Begins party (AsksWalk walk) lengths) result self.old self.new }
     {
-        if party < 1 {
-            return Err(Refusal::NoSuchParty);
-        }
-        let Some(own) = self.walks.get_mut((party - 1) as usize) else {
-            return Err(Refusal::NoSuchParty);
-        };
+        let place = place_of(party, self.walks.len())?;
+        let own = &mut self.walks[place];
         let entries = &self.entries;
         begin_walk(
             &mut self.store,
@@ -59,12 +59,8 @@ impl<K: Kind, U: Order + Drop, V: Order + Drop> Session<K, U, V> {
     fn turn_walk(&mut self, party: Party, lengths: Lengths) -> Outcome<K::Data, K::Worth>
         ensures { CarriesOut (WalkTurns party lengths) result self.old self.new }
     {
-        if party < 1 {
-            return Err(Refusal::NoSuchParty);
-        }
-        let Some(own) = self.walks.get_mut((party - 1) as usize) else {
-            return Err(Refusal::NoSuchParty);
-        };
+        let place = place_of(party, self.walks.len())?;
+        let own = &mut self.walks[place];
         let entries = &mut self.entries;
         turn_walk(
             &mut self.store,
@@ -75,4 +71,15 @@ impl<K: Kind, U: Order + Drop, V: Order + Drop> Session<K, U, V> {
             &mut own.worths,
         )
     }
+}
+
+// Where the party's lists stand among those of so many parties.
+fn place_of(party: Party, parties: usize) -> Result<usize, Refusal>
+    ensures { MatchResult result (λ place. (1 ≤ party) × (party ≤ parties) × (place ≡ party - 1)) (λ e. (between 1 parties party ≡ false) × (e ≡ NoSuchParty)) }
+{
+    let number = usize::from(party);
+    if number < 1 || number > parties {
+        return Err(Refusal::NoSuchParty);
+    }
+    Ok(number - 1)
 }

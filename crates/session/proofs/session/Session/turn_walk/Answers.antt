@@ -1,51 +1,49 @@
-use Rattle.std.proofs.Common.{◌∙◌, ◌-◌, ◌<◌, length, refl, sym, rules, arith}
+use Rattle.std.proofs.Common.{◌≡◌, ◌∙◌, ◌<◌, Err, length, get_or, refl, sym, ap, rules, arith}
 use Rattle.std.specs.Prelude.{vec_items}
 use Rattle.std.specs.Vec.{with_items}
 use Rattle.std.proofs.lemmas.List.{with_items_is}
+use Rattle.std.proofs.lemmas.Result.{err_from_is_err_and}
 use Rattle.std.proofs.lemmas.Bool.{true≢false}
 use Rattle.refusals.specs.declared.Refusal.TheVariants.{NoSuchParty}
 use Rattle.model.specs.declared.calls.Event.TheVariants.{WalkTurns}
 use Rattle.model.specs.Runs.{walk_turn_refused}
 use Rattle.model.specs.Steps.{between}
-use Rattle.cells.specs.View.{parties_of}
 use Rattle.store.specs.Shown.{shown}
 use Rattle.session.specs.Lent.{CarriesWalk, nothing_noted}
-use Rattle.session.proofs.Sessions.{no_party, no_party_to_turn, changes_own, rewritten, still_noted}
+use Rattle.session.proofs.Sessions.{no_party_to_turn, changes_own, rewritten, still_noted}
 use Rattle.session.proofs.session.Session.turn_walk.Goals as goal
 
-pub returns-then-party-lt1 : goal.returns-then-party-lt1
-returns-then-party-lt1 g c =
+pub returns-in_err-place : goal.returns-in_err-place
+returns-in_err-place g c =
     let s = c.args.self.now in
-    let N = parties_of s.store.cells in
-    let none = no_party N c.args.party (between 1 N c.args.party) refl (λ low high. omega arith) in
-    record { moves = walk_turn_refused NoSuchParty (no_party_to_turn s.store.cells c.args.party c.args.lengths none) refl refl; worths_stay = λ e q. refl; sizes = record { parties = refl; nodes = refl } }
-
-pub returns-in_default : goal.returns-in_default
-returns-in_default g c =
-    let s = c.args.self.now in
-    let N = parties_of s.store.cells in
-    let n = s.all_parties in
-    let none = no_party N c.args.party (between 1 N c.args.party) refl (λ low high. let u = c.in_default.ensures.variant in search rules) in
-    record { moves = walk_turn_refused NoSuchParty (no_party_to_turn s.store.cells c.args.party c.args.lengths none) refl refl; worths_stay = λ e q. refl; sizes = record { parties = refl; nodes = refl } }
+    let none = ap (λ n. between 1 n c.args.party) (sym (c.len.ensures ∙ s.all_parties)) ∙ c.in_err-place.ensures.0 in
+    let told = err_from_is_err_and c.from_residual.result c.from_residual.ensures.1 in
+    record {
+      moves = walk_turn_refused NoSuchParty (no_party_to_turn s.store.cells c.args.party c.args.lengths none) (told.1 ∙ ap Err (told.2 ∙ c.in_err-place.ensures.1)) refl;
+      worths_stay = λ e q. refl;
+      sizes = record { parties = refl; nodes = refl };
+    }
 
 pub invariant_of-self-2 : goal.invariant_of-self-2
 invariant_of-self-2 g c =
     let s = c.args.self.now in
     let z = (c.turn_walk.ensures.carries (λ q. nothing_noted g.K.Kind)).sizes in
-    let i = c.in-Some.ensures in
-    let low : c.args.party - 1 < length (vec_items s.walks) = search rules in
+    let place = c.in_ok-place.ensures in
+    let low : c.in_ok-place.place < length (vec_items s.walks) = search rules in
+    let is : c.index_mut-own.result.now ≡ get_or (vec_items s.walks) c.in_ok-place.place c.index_mut-own.result.now = search rules in
     record {
       all_nodes = s.all_nodes ∙ sym z.nodes;
       all_parties = s.all_parties ∙ sym z.parties;
-      noted = still_noted z.nodes (vec_items s.walks) (c.args.party - 1) c.in-Some.own.now c.turn_walk.new.marks c.turn_walk.new.worths i.value low s.noted;
+      noted = still_noted z.nodes (vec_items s.walks) c.in_ok-place.place c.index_mut-own.result.now c.turn_walk.new.marks c.turn_walk.new.worths is low s.noted;
     }
 
 pub returns : goal.returns
 returns g c =
     let s = c.args.self.now in
-    let own = c.in-Some.own.now in
-    let i = c.in-Some.ensures in
-    let low : c.args.party - 1 < length (vec_items s.walks) = search rules in
+    let own = c.index_mut-own.result.now in
+    let place = c.in_ok-place.ensures in
+    let low : c.in_ok-place.place < length (vec_items s.walks) = search rules in
+    let is : c.index_mut-own.result.now ≡ get_or (vec_items s.walks) c.in_ok-place.place c.index_mut-own.result.now = search rules in
     let after = rewritten own c.turn_walk.new.marks c.turn_walk.new.worths in
     let es = sym c.deref_mut.ensures.value in
     let ms = sym c.deref_mut-2.ensures.value in
@@ -56,7 +54,7 @@ returns g c =
     let h : CarriesWalk g.K.Kind g.U.Order g.V.Order c.args.party (WalkTurns c.args.party c.args.lengths) c.turn_walk.result (shown s.store (vec_items s.entries)) (shown c.turn_walk.new.store (vec_items (with_items s.entries c.turn_walk.new.data))) (vec_items own.marks) (vec_items after.marks) (vec_items own.worths) (vec_items after.worths) =
     rw (es', ms', ws', es, ms, ws) c.turn_walk.ensures in
     record {
-      moves = changes_own g.K.Kind g.U.Order g.V.Order (shown s.store (vec_items s.entries)) (shown c.turn_walk.new.store (vec_items (with_items s.entries c.turn_walk.new.data))) (vec_items s.walks) c.args.party own after (omega arith) (omega (arith, low)) i.value h;
+      moves = changes_own g.K.Kind g.U.Order g.V.Order (shown s.store (vec_items s.entries)) (shown c.turn_walk.new.store (vec_items (with_items s.entries c.turn_walk.new.data))) (vec_items s.walks) c.args.party c.in_ok-place.place own after place.0 (omega arith) place.2 is h;
       worths_stay = λ e. absurd (true≢false (sym e));
       sizes = (h.carries (λ q. nothing_noted g.K.Kind)).sizes;
     }
