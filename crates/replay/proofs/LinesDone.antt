@@ -13,7 +13,7 @@ use Rattle.model.specs.Runs.{Log, Moves}
 use Rattle.cells.specs.View.{SameSizes}
 use Rattle.store.specs.declared.errors.OpenError.TheVariants.{Refused}
 use Rattle.session.specs.declared.session.Session.{Session}
-use Rattle.session.specs.Sessions.{CarriesOut, setting_of, system_in}
+use Rattle.session.specs.Sessions.{CommandOnSession, setting_of, system_in}
 use Rattle.sheet.specs.declared.lines.Values.{Values}
 use Rattle.sheet.specs.declared.replies.Reply.{Reply}
 use Rattle.replay.specs.declared.requests.Opening.{Opening}
@@ -45,7 +45,7 @@ module _ {K D W : Type 0} (kind : KindMeaning K D W) (sheet : SheetNumbers D W) 
       let b : Stage D W = record { opening = o; first = system_in s; log = []; now = system_in s } in
       (Some b, record { now = refl; parties = f.new.store.all_parties; nodes = f.new.store.all_nodes }, opens a (record { session = s; opened = f; is = refl }) refl r)
 
-  pub begins_with : (s s' : S) (reply : Reply) {p : ℕ} {a : Asked D} {l : Lengths} {o : Outcome D W} → asked_on sheet values ≡ Some (Begin p a) → l ≡ all_entries (setting_of s).nodes → CarriesOut (Begins p a l) o s s' → reply ≡ told sheet n o
+  pub begins_with : (s s' : S) (reply : Reply) {p : ℕ} {a : Asked D} {l : Lengths} {o : Outcome D W} → asked_on sheet values ≡ Some (Begin p a) → l ≡ all_entries (setting_of s).nodes → CommandOnSession (Begins p a l) o s s' → reply ≡ told sheet n o
       → CarriesOutLine {kind = kind} sheet n values (Some s) (Some s') reply
   begins_with s s' reply a is c r None h = absurd h
   begins_with s s' reply {p} {a} {l} {o} asked is c r (Some b) h =

@@ -28,7 +28,7 @@ use Rattle.store.specs.Given.{system_of, zero_data}
 use Rattle.walks.specs.declared.notes.Notes.{Notes as Lists}
 use Rattle.walks.specs.Notes.{SameLists, notes_of}
 use Rattle.store.specs.Moved.{Shown, FurtherStay, BeginsCall, TurnsCall, BeginsWalk, TurnsWalk, with_lists}
-use Rattle.session.specs.Lent.{Carries, CarriesWalk}
+use Rattle.session.specs.Lent.{CommandOnStore, CommandOnWalkLists}
 use Rattle.session.proofs.Over.{begins_over, turns_over, walk_turns_over}
 use Rattle.session.proofs.Parts.{same_list, part_short, part_whole, change_whole, change_none}
 
@@ -100,7 +100,7 @@ module _ {K D W A B : Type 0} (kind : KindMeaning K D W) (node_order : OrderMean
     -- a call's Begin
     pub begins_call : (p : ℕ) (c : Call D) (l : Lengths) {o : Outcome D W} (notes : ℕ → Notes W) → l.entries ≡ k → after.entries ≡ before.entries
         → BeginsCall kind node_order party_order p c o (over part before) (over part after)
-        → Carries kind node_order party_order (Begins p (AsksCall c) l) o before after notes notes
+        → CommandOnStore kind node_order party_order (Begins p (AsksCall c) l) o before after notes notes
     begins_call p c l {o} notes asked same B =
         let lent : Lengths = record { entries = length part; marks = 0; worths = 0 } in
         let s = view_of before.cells in
@@ -118,7 +118,7 @@ module _ {K D W A B : Type 0} (kind : KindMeaning K D W) (node_order : OrderMean
     -- a call's Turn, which leaves the new entries in the part's place
     pub turns_call : (p : ℕ) (l : Lengths) (new : List D) {o : Outcome D W} (notes : ℕ → Notes W) → l.entries ≡ k → length new ≡ length part → after.entries ≡ new ++ drop n before.entries
         → TurnsCall kind node_order party_order p o (over part before) (over new after)
-        → Carries kind node_order party_order (Turns p l) o before after notes notes
+        → CommandOnStore kind node_order party_order (Turns p l) o before after notes notes
     turns_call p l new {o} notes asked same is T =
         let lent : Lengths = record { entries = length part; marks = 0; worths = 0 } in
         let r = (view_of before.cells).run p in
@@ -196,11 +196,11 @@ module _ {K D W A B : Type 0} (kind : KindMeaning K D W) (node_order : OrderMean
       -- a walk's Begin
       pub begins_walk : (w : Walk) (l : Lengths) {o : Outcome D W} → l.entries ≡ k → l.marks ≡ marks_asked → l.worths ≡ worths_asked → after.entries ≡ before.entries
           → BeginsWalk kind node_order party_order p w o (over part before) (over part after) lists lists'
-          → CarriesWalk kind node_order party_order p (Begins p (AsksWalk w) l) o before after marks marks' worths worths'
+          → CommandOnWalkLists kind node_order party_order p (Begins p (AsksWalk w) l) o before after marks marks' worths worths'
       begins_walk w l {o} a b c same_entries B =
           let s = view_of before.cells in
           record {
-            carries = λ notes. record {
+            on_store = λ notes. record {
               moves = begins_over {X = X} {F = sys (over part before) (lent_notes notes lists)} {F' = sys before (whole_notes notes marks worths)} {G = sys (over part after) (lent_notes notes lists')} {G' = sys after (whole_notes notes marks' worths')}
                   (λ e. stays part (whole_notes notes marks worths) (whole_notes notes marks' worths') (lent_notes notes lists) (lent_notes notes lists') e same_entries (notes_stay notes part e))
                   (fault_if kind.suits N M (not (is_idle (s.run p))) p (AsksWalk w) (s.slot p) (s.trail p) l lent_lengths (as_short l a b c))
@@ -217,11 +217,11 @@ module _ {K D W A B : Type 0} (kind : KindMeaning K D W) (node_order : OrderMean
       -- a walk's Turn
       pub turns_walk : (l : Lengths) (new : List D) {o : Outcome D W} → l.entries ≡ k → l.marks ≡ marks_asked → l.worths ≡ worths_asked → length new ≡ length part → after.entries ≡ new ++ drop n before.entries
           → TurnsWalk kind node_order party_order p o (over part before) (over new after) lists lists'
-          → CarriesWalk kind node_order party_order p (WalkTurns p l) o before after marks marks' worths worths'
+          → CommandOnWalkLists kind node_order party_order p (WalkTurns p l) o before after marks marks' worths worths'
       turns_walk l new {o} a b c as_long is T =
           let r = (view_of before.cells).run p in
           record {
-            carries = λ notes. record {
+            on_store = λ notes. record {
               moves = walk_turns_over {X = X} {F = sys (over part before) (lent_notes notes lists)} {F' = sys before (whole_notes notes marks worths)} {G = sys (over new after) (lent_notes notes lists')} {G' = sys after (whole_notes notes marks' worths')}
                   (λ e. stays new (whole_notes notes marks worths) (whole_notes notes marks' worths') (lent_notes notes lists) (lent_notes notes lists') e (unchanged new (lent_notes notes lists) (lent_notes notes lists') as_long is e) (notes_stay notes new e))
                   (walk_turn_fault_if N M p r l lent_lengths (as_short l a b c))

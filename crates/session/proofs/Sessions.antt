@@ -24,7 +24,7 @@ use Rattle.cells.proofs.Views.{upd_own}
 use Rattle.cells.specs.View.{nodes_of, parties_of, view_of, SameSizes}
 use Rattle.store.specs.Moved.{Shown}
 use Rattle.session.specs.declared.lists.WalkLists.{WalkLists}
-use Rattle.session.specs.Lent.{Carries, CarriesWalk, noted_in, nothing_noted, all_noted}
+use Rattle.session.specs.Lent.{CommandOnStore, CommandOnWalkLists, noted_in, nothing_noted, all_noted}
 use Rattle.session.specs.Lists.{AnEntryEach}
 use Rattle.session.proofs.Lent.{sys}
 
@@ -67,7 +67,7 @@ module _ {K D W A B : Type 0} (kind : KindMeaning K D W) (node_order : OrderMean
     same_size {e} {o} F ws z m = subst (λ n. Moves X F e o (sys kind node_order party_order after (all_noted kind n ws))) (sym z.nodes) m
 
     -- a command that leaves all walks' lists
-    pub leaves_walks : {e : Event D} {o : Outcome D W} → ((notes : ℕ → Notes W) → Carries kind node_order party_order e o before after notes notes)
+    pub leaves_walks : {e : Event D} {o : Outcome D W} → ((notes : ℕ → Notes W) → CommandOnStore kind node_order party_order e o before after notes notes)
         → Moves X (sys kind node_order party_order before (all_noted kind M walks)) e o (sys kind node_order party_order after (all_noted kind (nodes_of after.cells) walks))
     leaves_walks h = let c = h (all_noted kind M walks) in same_size (sys kind node_order party_order before (all_noted kind M walks)) walks c.sizes c.moves
 
@@ -100,12 +100,12 @@ module _ {K D W A B : Type 0} (kind : KindMeaning K D W) (node_order : OrderMean
 
     -- a command that changes one party's
     pub changes_own : {e : Event D} {o : Outcome D W} (p i : ℕ) (own own' : WalkLists W) → 1 ≤ p → p ≤ length walks → i ≡ p - 1 → own ≡ get_or walks i own
-        → CarriesWalk kind node_order party_order p e o before after (vec_items own.marks) (vec_items own'.marks) (vec_items own.worths) (vec_items own'.worths)
+        → CommandOnWalkLists kind node_order party_order p e o before after (vec_items own.marks) (vec_items own'.marks) (vec_items own.worths) (vec_items own'.worths)
         → Moves X (sys kind node_order party_order before (all_noted kind M walks)) e o (sys kind node_order party_order after (all_noted kind (nodes_of after.cells) (set walks i own')))
     changes_own {e} {o} p i own own' low high at is h =
         let all = all_noted kind M walks in
         let note = noted_in kind M in
-        let c = h.carries all in
+        let c = h.on_store all in
         let first : upd all p (note own) ≡ all = upd_own all p (note own) (sym (own_noted p i own low high at is)) in
         let then : upd all p (note own') ≡ all_noted kind M (set walks i own') = own_changed p i own' low high at in
         same_size (sys kind node_order party_order before all) (set walks i own') c.sizes

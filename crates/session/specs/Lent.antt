@@ -30,13 +30,13 @@ module _ {K D W : Type 0} (kind : KindMeaning K D W) where
   all_noted M walks = nth nothing_noted (map (noted_in M) walks)
 
 module _ {K D W A B : Type 0} (kind : KindMeaning K D W) (node_order : OrderMeaning A) (party_order : OrderMeaning B) where
-  -- the command is a move of the model from the store, the data list and everybody's notes before to those after
-  pub record Carries (command : Event D) (o : Outcome D W) (before after : Shown D A B) (notes notes' : ℕ → Notes W) : Type 0 where
+  -- what a command does to a store with its data list: a move of the model, from everybody's notes before to those after
+  pub record CommandOnStore (command : Event D) (o : Outcome D W) (before after : Shown D A B) (notes notes' : ℕ → Notes W) : Type 0 where
     pub moves : MovesBy kind node_order party_order command o before after notes notes'
     pub sizes : SameSizes before.cells after.cells
 
-  -- of a party's walk, whose lists of marks and worths these are
-  pub record CarriesWalk (p : ℕ) (command : Event D) (o : Outcome D W) (before after : Shown D A B) (marks marks' : List Bool) (worths worths' : List W) : Type 0 where
-    pub carries : (notes : ℕ → Notes W) → Carries command o before after (upd notes p (notes_of kind.none (nodes_of before.cells) marks worths)) (upd notes p (notes_of kind.none (nodes_of before.cells) marks' worths'))
+  -- what a command of a walk does, which is lent its party's marks and worths beside the data list; nobody else's notes change
+  pub record CommandOnWalkLists (p : ℕ) (command : Event D) (o : Outcome D W) (before after : Shown D A B) (marks marks' : List Bool) (worths worths' : List W) : Type 0 where
+    pub on_store : (notes : ℕ → Notes W) → CommandOnStore command o before after (upd notes p (notes_of kind.none (nodes_of before.cells) marks worths)) (upd notes p (notes_of kind.none (nodes_of before.cells) marks' worths'))
     -- a Begin takes marks off, and writes no worth
     pub worths_stay : is_begin command ≡ true → worths' ≡ worths

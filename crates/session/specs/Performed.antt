@@ -13,7 +13,7 @@ use Rattle.store.specs.Given.{zero_data}
 use Rattle.store.specs.Opening.{Opens}
 use Rattle.session.specs.declared.session.Session.{Session}
 use Rattle.session.specs.declared.lists.WalkLists.{WalkLists}
-use Rattle.session.specs.Sessions.{CarriesOut, system_in}
+use Rattle.session.specs.Sessions.{CommandOnSession, system_in}
 
 -- at each moment of a run of this log from F to H, the law holds of what has been run until then, beside any new plain store
 abbrev pub LawAtEachMoment : {D W A B : Type 0} (X : Setting D W A B) → System D W A B → Log X → System D W A B → Type 0
@@ -35,7 +35,7 @@ module _ {K A B D W : Type 0} {kind : KindMeaning K D W} {node_order : OrderMean
   pub data CarriedOut (before : Session K A B D W kind node_order party_order) : List (Event D) → List (Outcome D W) → Session K A B D W kind node_order party_order → Type 0 where
     none_yet : {commands : List (Event D)} {outcomes : List (Outcome D W)} → commands ≡ [] → outcomes ≡ [] → CarriedOut before commands outcomes before
     one_more : {earlier commands : List (Event D)} {told outcomes : List (Outcome D W)} {between after : Session K A B D W kind node_order party_order} (c : Event D) (o : Outcome D W)
-        → CarriedOut before earlier told between → CarriesOut c o between after → commands ≡ earlier ++ c ∷ [] → outcomes ≡ told ++ o ∷ [] → CarriedOut before commands outcomes after
+        → CarriedOut before earlier told between → CommandOnSession c o between after → commands ≡ earlier ++ c ∷ [] → outcomes ≡ told ++ o ∷ [] → CarriedOut before commands outcomes after
 
   -- the commands, in their order, are carried out on a new session, with these outcomes; so they are a run of the model, and at
   -- each moment of it the law holds

@@ -19,8 +19,8 @@ module _ {K A B D W : Type 0} {kind : KindMeaning K D W} {node_order : OrderMean
   abbrev pub system_in : Session K A B D W kind node_order party_order → System D W A B
   system_in s = system_of kind s.store.cells s.store.node_order s.store.party_order (vec_items s.entries) (all_noted kind (nodes_of s.store.cells) (vec_items s.walks))
 
-  -- a move of the model, with this outcome
-  pub record CarriesOut (command : Event D) (o : Outcome D W) (before after : Session K A B D W kind node_order party_order) : Type 0 where
+  -- what a command does to a session: a move of the model, with this outcome
+  pub record CommandOnSession (command : Event D) (o : Outcome D W) (before after : Session K A B D W kind node_order party_order) : Type 0 where
     pub moves : Moves (setting_of before) (system_in before) command o (system_in after)
     -- a Begin writes no worth
     pub worths_stay : is_begin command ≡ true → (q : ℕ) → ((system_in after).notes q).worths ≡ ((system_in before).notes q).worths

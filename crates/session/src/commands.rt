@@ -14,11 +14,11 @@ use refusals::Refusal;
 impl<K: Kind, U: Order + Drop, V: Order + Drop> Session<K, U, V> {
     ghost use Rattle.model.specs.declared.calls.Asked.TheVariants.{AsksWalk};
     ghost use Rattle.model.specs.declared.calls.Event.TheVariants.{Begins, WalkTurns};
-    ghost use Rattle.session.specs.Sessions.{CarriesOut};
+    ghost use Rattle.session.specs.Sessions.{CommandOnSession};
 
     // Carries out one command. It is lent as many entries of each list as it says, and no more than there are.
     pub fn carry_out(&mut self, command: Event<K::Data>) -> Outcome<K::Data, K::Worth>
-        ensures { CarriesOut command result self.old self.new }
+        ensures { CommandOnSession command result self.old self.new }
     {
         match command {
             Event::Begins(party, Asked::AsksCall(call), lengths) => {
@@ -40,7 +40,7 @@ impl<K: Kind, U: Order + Drop, V: Order + Drop> Session<K, U, V> {
         walk: Walk,
         lengths: Lengths,
     ) -> Outcome<K::Data, K::Worth>
-        ensures { CarriesOut (Begins party (AsksWalk walk) lengths) result self.old self.new }
+        ensures { CommandOnSession (Begins party (AsksWalk walk) lengths) result self.old self.new }
     {
         let place = place_of(party, self.walks.len())?;
         let own = &mut self.walks[place];
@@ -57,7 +57,7 @@ impl<K: Kind, U: Order + Drop, V: Order + Drop> Session<K, U, V> {
     }
 
     fn turn_walk(&mut self, party: Party, lengths: Lengths) -> Outcome<K::Data, K::Worth>
-        ensures { CarriesOut (WalkTurns party lengths) result self.old self.new }
+        ensures { CommandOnSession (WalkTurns party lengths) result self.old self.new }
     {
         let place = place_of(party, self.walks.len())?;
         let own = &mut self.walks[place];

@@ -4,7 +4,7 @@ ghost use Rattle.cells.specs.View.{nodes_of};
 ghost use Rattle.model.specs.Walks.{Notes as Noted};
 ghost use Rattle.model.specs.declared.calls.Event.TheVariants.{Begins, Turns, WalkTurns};
 ghost use Rattle.model.specs.declared.calls.Asked.TheVariants.{AsksCall, AsksWalk};
-ghost use Rattle.session.specs.Lent.{Carries, CarriesWalk};
+ghost use Rattle.session.specs.Lent.{CommandOnStore, CommandOnWalkLists};
 ghost use Rattle.store.specs.Shown.{shown};
 
 use kinds::kind::Kind;
@@ -24,7 +24,7 @@ pub(crate) fn begin<K: Kind, U: Order + Drop, V: Order + Drop>(
     data: &[K::Data],
 ) -> Outcome<K::Data, K::Worth>
     requires { length «data».now ≡ nodes_of store.old.cells }
-    ensures { (notes : ℕ → Noted K.Worth) → Carries K.Kind U.Order V.Order (Begins party (AsksCall call) lengths) result (shown store.old «data».now) (shown store.new «data».now) notes notes }
+    ensures { (notes : ℕ → Noted K.Worth) → CommandOnStore K.Kind U.Order V.Order (Begins party (AsksCall call) lengths) result (shown store.old «data».now) (shown store.new «data».now) notes notes }
 {
     let lent = lengths.entries.min(data.len());
     store.begin(party, call, &data[..lent])
@@ -38,7 +38,7 @@ pub(crate) fn turn<K: Kind, U: Order + Drop, V: Order + Drop>(
     data: &mut [K::Data],
 ) -> Outcome<K::Data, K::Worth>
     requires { length «data».old ≡ nodes_of store.old.cells }
-    ensures { (notes : ℕ → Noted K.Worth) → Carries K.Kind U.Order V.Order (Turns party lengths) result (shown store.old «data».old) (shown store.new «data».new) notes notes }
+    ensures { (notes : ℕ → Noted K.Worth) → CommandOnStore K.Kind U.Order V.Order (Turns party lengths) result (shown store.old «data».old) (shown store.new «data».new) notes notes }
 {
     let lent = lengths.entries.min(data.len());
     store.turn(party, &mut data[..lent])
@@ -56,7 +56,7 @@ pub(crate) fn begin_walk<K: Kind, U: Order + Drop, V: Order + Drop>(
 ) -> Outcome<K::Data, K::Worth>
     requires entries { length «data».now ≡ nodes_of store.old.cells }
     requires lists { (length marks.old ≡ nodes_of store.old.cells) × (length worths.old ≡ nodes_of store.old.cells) }
-    ensures { CarriesWalk K.Kind U.Order V.Order party (Begins party (AsksWalk walk) lengths) result (shown store.old «data».now) (shown store.new «data».now) marks.old marks.new worths.old worths.new }
+    ensures { CommandOnWalkLists K.Kind U.Order V.Order party (Begins party (AsksWalk walk) lengths) result (shown store.old «data».now) (shown store.new «data».now) marks.old marks.new worths.old worths.new }
 {
     let marked = lengths.marks.min(marks.len());
     let noted = lengths.worths.min(worths.len());
@@ -78,7 +78,7 @@ pub(crate) fn turn_walk<K: Kind, U: Order + Drop, V: Order + Drop>(
 ) -> Outcome<K::Data, K::Worth>
     requires entries { length «data».old ≡ nodes_of store.old.cells }
     requires lists { (length marks.old ≡ nodes_of store.old.cells) × (length worths.old ≡ nodes_of store.old.cells) }
-    ensures { CarriesWalk K.Kind U.Order V.Order party (WalkTurns party lengths) result (shown store.old «data».old) (shown store.new «data».new) marks.old marks.new worths.old worths.new }
+    ensures { CommandOnWalkLists K.Kind U.Order V.Order party (WalkTurns party lengths) result (shown store.old «data».old) (shown store.new «data».new) marks.old marks.new worths.old worths.new }
 {
     let marked = lengths.marks.min(marks.len());
     let noted = lengths.worths.min(worths.len());

@@ -9,7 +9,7 @@ use Rattle.model.specs.Runs.{begin_refused}
 use Rattle.model.specs.Steps.{between}
 use Rattle.store.specs.Shown.{shown}
 use Rattle.store.proofs.Moving.{no_party_fault}
-use Rattle.session.specs.Lent.{CarriesWalk, nothing_noted}
+use Rattle.session.specs.Lent.{CommandOnWalkLists, nothing_noted}
 use Rattle.session.proofs.Sessions.{changes_own, own_worths, rewritten, still_noted}
 use Rattle.session.proofs.session.Session.begin_walk.Goals as goal
 
@@ -27,7 +27,7 @@ returns-in_err-place g c =
 pub invariant_of-self-2 : goal.invariant_of-self-2
 invariant_of-self-2 g c =
     let s = c.args.self.now in
-    let z = (c.begin_walk.ensures.carries (λ q. nothing_noted g.K.Kind)).sizes in
+    let z = (c.begin_walk.ensures.on_store (λ q. nothing_noted g.K.Kind)).sizes in
     let place = c.in_ok-place.ensures in
     let low : c.in_ok-place.place < length (vec_items s.walks) = search rules in
     let is : c.index_mut-own.result.now ≡ get_or (vec_items s.walks) c.in_ok-place.place c.index_mut-own.result.now = search rules in
@@ -52,10 +52,10 @@ returns g c =
     let ws = sym c.deref_mut-2.ensures.value in
     let ms' = with_items_is own.marks c.begin_walk.new.marks (search rules) in
     let ws' = with_items_is own.worths c.begin_walk.new.worths (search rules) in
-    let h : CarriesWalk g.K.Kind g.U.Order g.V.Order c.args.party (Begins c.args.party (AsksWalk c.args.walk) c.args.lengths) c.begin_walk.result before there (vec_items own.marks) (vec_items after.marks) (vec_items own.worths) (vec_items after.worths) =
+    let h : CommandOnWalkLists g.K.Kind g.U.Order g.V.Order c.args.party (Begins c.args.party (AsksWalk c.args.walk) c.args.lengths) c.begin_walk.result before there (vec_items own.marks) (vec_items after.marks) (vec_items own.worths) (vec_items after.worths) =
     rw (ms', ws', es, ms, ws) c.begin_walk.ensures in
     record {
       moves = changes_own g.K.Kind g.U.Order g.V.Order before there (vec_items s.walks) c.args.party c.in_ok-place.place own after place.0 (omega arith) place.2 is h;
-      worths_stay = λ e q. own_worths g.K.Kind g.U.Order g.V.Order before there (vec_items s.walks) c.args.party c.in_ok-place.place own after place.0 (omega arith) place.2 is (h.worths_stay e) (h.carries (λ q. nothing_noted g.K.Kind)).sizes q;
-      sizes = (h.carries (λ q. nothing_noted g.K.Kind)).sizes;
+      worths_stay = λ e q. own_worths g.K.Kind g.U.Order g.V.Order before there (vec_items s.walks) c.args.party c.in_ok-place.place own after place.0 (omega arith) place.2 is (h.worths_stay e) (h.on_store (λ q. nothing_noted g.K.Kind)).sizes q;
+      sizes = (h.on_store (λ q. nothing_noted g.K.Kind)).sizes;
     }

@@ -7,7 +7,7 @@ use Rattle.model.specs.declared.calls.Asked.TheVariants.{AsksCall, AsksWalk}
 use Rattle.model.specs.declared.calls.Event.TheVariants.{Begins, Turns}
 use Rattle.model.specs.Walks.{Notes}
 use Rattle.store.specs.Shown.{shown}
-use Rattle.session.specs.Lent.{Carries, nothing_noted}
+use Rattle.session.specs.Lent.{CommandOnStore, nothing_noted}
 use Rattle.session.specs.Lists.{AnEntryEach}
 use Rattle.session.proofs.Sessions.{leaves_walks, leaves_worths}
 use Rattle.session.proofs.session.Session.carry_out.Goals as goal
@@ -32,7 +32,7 @@ returns-in-Begins-default-AsksCall-default g c =
     let es = sym c.deref.ensures.value in
     let before = shown s.store (vec_items s.entries) in
     let after = shown c.begin.new.store (vec_items s.entries) in
-    let h : (notes : ℕ → Notes g.row.K-Worth.Denot) → Carries g.K.Kind g.U.Order g.V.Order (Begins i.party (AsksCall i.call) i.lengths) c.begin.result before after notes notes = λ notes. rw es (c.begin.ensures notes) in
+    let h : (notes : ℕ → Notes g.row.K-Worth.Denot) → CommandOnStore g.K.Kind g.U.Order g.V.Order (Begins i.party (AsksCall i.call) i.lengths) c.begin.result before after notes notes = λ notes. rw es (c.begin.ensures notes) in
     rw is (record { moves = leaves_walks g.K.Kind g.U.Order g.V.Order before after (vec_items s.walks) h; worths_stay = λ e. leaves_worths g.K.Kind g.U.Order g.V.Order before after (vec_items s.walks) (h (λ q. nothing_noted g.K.Kind)).sizes; sizes = (h (λ q. nothing_noted g.K.Kind)).sizes })
 
 pub returns-in-Begins-default-AsksWalk-default : goal.returns-in-Begins-default-AsksWalk-default
@@ -49,7 +49,7 @@ returns-in-Turns g c =
     let es' = with_items_is s.entries c.turn.new.data (search rules) in
     let before = shown s.store (vec_items s.entries) in
     let after = shown c.turn.new.store (vec_items (with_items s.entries c.turn.new.data)) in
-    let h : (notes : ℕ → Notes g.row.K-Worth.Denot) → Carries g.K.Kind g.U.Order g.V.Order (Turns i.party i.lengths) c.turn.result before after notes notes = λ notes. rw (es', es) (c.turn.ensures notes) in
+    let h : (notes : ℕ → Notes g.row.K-Worth.Denot) → CommandOnStore g.K.Kind g.U.Order g.V.Order (Turns i.party i.lengths) c.turn.result before after notes notes = λ notes. rw (es', es) (c.turn.ensures notes) in
     rw i.is (record { moves = leaves_walks g.K.Kind g.U.Order g.V.Order before after (vec_items s.walks) h; worths_stay = λ e. absurd (true≢false (sym e)); sizes = (h (λ q. nothing_noted g.K.Kind)).sizes })
 
 pub returns-in-WalkTurns : goal.returns-in-WalkTurns

@@ -9,7 +9,7 @@ use Rattle.model.specs.declared.calls.Event.TheVariants.{WalkTurns}
 use Rattle.model.specs.Runs.{walk_turn_refused}
 use Rattle.model.specs.Steps.{between}
 use Rattle.store.specs.Shown.{shown}
-use Rattle.session.specs.Lent.{CarriesWalk, nothing_noted}
+use Rattle.session.specs.Lent.{CommandOnWalkLists, nothing_noted}
 use Rattle.session.proofs.Sessions.{no_party_to_turn, changes_own, rewritten, still_noted}
 use Rattle.session.proofs.session.Session.turn_walk.Goals as goal
 
@@ -27,7 +27,7 @@ returns-in_err-place g c =
 pub invariant_of-self-2 : goal.invariant_of-self-2
 invariant_of-self-2 g c =
     let s = c.args.self.now in
-    let z = (c.turn_walk.ensures.carries (λ q. nothing_noted g.K.Kind)).sizes in
+    let z = (c.turn_walk.ensures.on_store (λ q. nothing_noted g.K.Kind)).sizes in
     let place = c.in_ok-place.ensures in
     let low : c.in_ok-place.place < length (vec_items s.walks) = search rules in
     let is : c.index_mut-own.result.now ≡ get_or (vec_items s.walks) c.in_ok-place.place c.index_mut-own.result.now = search rules in
@@ -51,10 +51,10 @@ returns g c =
     let es' = with_items_is s.entries c.turn_walk.new.data (search rules) in
     let ms' = with_items_is own.marks c.turn_walk.new.marks (search rules) in
     let ws' = with_items_is own.worths c.turn_walk.new.worths (search rules) in
-    let h : CarriesWalk g.K.Kind g.U.Order g.V.Order c.args.party (WalkTurns c.args.party c.args.lengths) c.turn_walk.result (shown s.store (vec_items s.entries)) (shown c.turn_walk.new.store (vec_items (with_items s.entries c.turn_walk.new.data))) (vec_items own.marks) (vec_items after.marks) (vec_items own.worths) (vec_items after.worths) =
+    let h : CommandOnWalkLists g.K.Kind g.U.Order g.V.Order c.args.party (WalkTurns c.args.party c.args.lengths) c.turn_walk.result (shown s.store (vec_items s.entries)) (shown c.turn_walk.new.store (vec_items (with_items s.entries c.turn_walk.new.data))) (vec_items own.marks) (vec_items after.marks) (vec_items own.worths) (vec_items after.worths) =
     rw (es', ms', ws', es, ms, ws) c.turn_walk.ensures in
     record {
       moves = changes_own g.K.Kind g.U.Order g.V.Order (shown s.store (vec_items s.entries)) (shown c.turn_walk.new.store (vec_items (with_items s.entries c.turn_walk.new.data))) (vec_items s.walks) c.args.party c.in_ok-place.place own after place.0 (omega arith) place.2 is h;
       worths_stay = λ e. absurd (true≢false (sym e));
-      sizes = (h.carries (λ q. nothing_noted g.K.Kind)).sizes;
+      sizes = (h.on_store (λ q. nothing_noted g.K.Kind)).sizes;
     }
