@@ -6,3 +6,4 @@ pub mod RoundsLemmas
 pub mod Before
 pub mod Factors
 pub mod CardsLemmas
+pub mod OnePick

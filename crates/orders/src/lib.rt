@@ -3,6 +3,7 @@
 
 pub mod card;
 pub mod limits;
+pub mod one_pick;
 pub mod order;
 pub mod picks;
 mod round;
