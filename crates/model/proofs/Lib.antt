@@ -51,6 +51,7 @@ pub mod BeginsPlainly
 pub mod TurnsPlainly
 pub mod RunsPlainly
 pub mod Worths
+pub mod TermSizes
 pub mod Walk
 pub mod WalkTurn
 pub mod WalkRun

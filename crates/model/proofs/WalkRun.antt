@@ -20,6 +20,7 @@ use Rattle.model.proofs.Accepted.{turn_walks_not}
 use Rattle.model.proofs.RefusedTurns.{turn_refusal, walk_turn_refusal}
 use Rattle.model.proofs.Logs.{ends_not_now, ends_not_later}
 use Rattle.model.proofs.Kept.{Kept, moves_keep}
+use Rattle.model.proofs.TermSizes.{each_term_has_a_size}
 use Rattle.model.proofs.Worths.{SameTerm, worth_there, term_has_there, term_has_unique}
 use Rattle.model.proofs.Walk.{View, spent, none_marked, Standing, standing_there, standing_begun, spent_bound, Turned, goes_on, ends}
 use Rattle.model.proofs.WalkTurn.{view_of, StandingIn, place_walks, walk_slot, walk_low, walk_turned, WalkAnswers, walk_turn_writes_nothing}
@@ -223,9 +224,16 @@ module _ {D W A B : Type 0} (X : Setting D W A B) where
           came (onward k c f) = absurd (true≢false (sym end_is ∙ f))
           came (over n c f) = omega (arith, n)
 
-  -- the law's part: a walk over m nodes ends at its turn 9 * m - 5, and not before
+  -- the law's part: a walk goes over some number m of nodes, and ends at its turn 9 * m - 5, and not before
   pub walks_end : (G : System D W A B) → Kept X G → WalksEnd X G
-  walks_end G K p w l m T = record {
-    not_later = λ H L later mv r z. (let u = begun_walk p w l mv in not_yet G H K p w l m T mv u.0 u.1 u.2 u.3 L later r z);
-    just_then = λ H L M later e o mv r z move ti ei. (let u = begun_walk p w l mv in at_last G H K p w l m T mv u.0 u.1 u.2 u.3 L later r z M e o move ti ei);
-  }
+  walks_end G K p w l =
+      let size = each_term_has_a_size G.store.kids K.sound.ranked X.nodes (G.store.slot p w.slot) in
+      let m : ℕ = size.0 in
+      let T : TermHas X.nodes G.store.kids (G.store.slot p w.slot) m = size.1 in (
+        m,
+        T,
+        record {
+          not_later = λ H L later mv r z. (let u = begun_walk p w l mv in not_yet G H K p w l m T mv u.0 u.1 u.2 u.3 L later r z);
+          just_then = λ H L M later e o mv r z move ti ei. (let u = begun_walk p w l mv in at_last G H K p w l m T mv u.0 u.1 u.2 u.3 L later r z M e o move ti ei);
+        },
+      )

@@ -55,9 +55,13 @@ module _ {D W A B : Type 0} (X : Setting D W A B) where
   abbrev pub EachNodeHasOneWorth : Type 0
   EachNodeHasOneWorth = (F : System D W A B) → CanExist F → (t : Situation) (n : ℕ) → (w : W) × HasWorth F t n w × ((v : W) → HasWorth F t n v → v ≡ w)
 
-  -- the number of different nodes of a term is one only
+  -- m is the number of different nodes of n's term
+  abbrev pub HasSize : System D W A B → ℕ → ℕ → Type 0
+  HasSize F n m = TermHas X.nodes F.store.kids n m
+
+  -- each term has a number of different nodes, and one only
   abbrev pub EachTermHasOneSize : Type 0
-  EachTermHasOneSize = (F : System D W A B) → CanExist F → (n l m : ℕ) → TermHas X.nodes F.store.kids n l → TermHas X.nodes F.store.kids n m → l ≡ m
+  EachTermHasOneSize = (F : System D W A B) → CanExist F → (n : ℕ) → (m : ℕ) × HasSize F n m × ((l : ℕ) → HasSize F n l → l ≡ m)
 
   -- with nothing running, some node is free exactly when some node is out of reach
   abbrev pub FreeExactlyWhenLost : Type 0

@@ -50,8 +50,9 @@ module _ {D W A B : Type 0} (X : Setting D W A B) where
     pub just_then : (H K L : System D W A B) (later : Log X) (e : Event D) (o : Outcome D W) → Moves X G (Begins p (AsksWalk w) l) (Ok Begun) H → Run X H later K → ends_of p later ≡ 0
         → Moves X K e o L → is_turn_of p e ≡ true → is_end o ≡ true → turns_of p later + 1 + 5 ≡ 9 * m
 
+  -- the term that a walk is to go over has some number of different nodes, and the walk ends by that
   abbrev pub WalksEnd : System D W A B → Type 0
-  WalksEnd G = (p : ℕ) (w : Walk) (l : Lengths) (m : ℕ) → TermHas X.nodes G.store.kids (G.store.slot p w.slot) m → WalkEnds G p w l m
+  WalksEnd G = (p : ℕ) (w : Walk) (l : Lengths) → (m : ℕ) × TermHas X.nodes G.store.kids (G.store.slot p w.slot) m × WalkEnds G p w l m
 
   -- what holds after every list of Begins and Turns
   pub record HoldsAfter (s : Plain D) (asked : ℕ → Ask D) (es : Log X) (G : System D W A B) : Type 0 where
