@@ -2,6 +2,7 @@
 use Rattle.std.specs.Prelude.{◌≡◌, ℕ, ◌≤◌, Result, MatchResult}
 use Rattle.refusals.specs.declared.Refusal.{Refusal}
 use Rattle.refusals.specs.declared.Refusal.TheVariants.{NoSuchSlot}
+use Rattle.kinds.specs.Limits.{last_kid}
 use Rattle.kinds.specs.declared.kids.Kid.{Kid}
 use Rattle.kinds.specs.declared.kids.Kid.TheVariants.{First, Second, Third}
 use Rattle.kinds.specs.declared.kids.PerKid.{PerKid}
@@ -14,7 +15,7 @@ position Third = 3
 
 -- what a number is read as: the kid that has it, or the refusal where none has
 abbrev pub KidNumbered : ℕ → Result Kid Refusal → Type 0
-KidNumbered n r = MatchResult r (λ k. position k ≡ n) (λ e. ((1 ≤ n) × (n ≤ 3) → ⊥) × (e ≡ NoSuchSlot))
+KidNumbered n r = MatchResult r (λ k. position k ≡ n) (λ e. ((1 ≤ n) × (n ≤ last_kid) → ⊥) × (e ≡ NoSuchSlot))
 
 module _ {T : Type 0} where
   -- what stands at the kid

@@ -1,6 +1,14 @@
 -- The limits of situations and data, each said once.
 use Rattle.std.specs.Prelude.{ℕ, Bool, ◌&&◌, ℤ, pos, negsuc, int_le}
 
+-- a node has this many kids, counted from 1
+abbrev pub last_kid : ℕ
+last_kid = 3
+
+-- ranges are numbered from 0 to this
+abbrev pub last_range : ℕ
+last_range = 1
+
 -- gears are numbered from 1 to this
 abbrev pub last_gear : ℕ
 last_gear = 16

@@ -7,14 +7,11 @@ use Rattle.kinds.specs.declared.kids.PerKid.{PerKid}
 use Rattle.model.specs.Types.{Kids, Lengths, Call, Enter, Up, Leave, Read, Down, Keep, Drop, Hand, Fetch, Make, Sweep, Walk, Asked, AsksCall, AsksWalk, Running, Idle, Reads, GoesDown, Keeps, Drops, Hands, Fetches, TakesOut, Works, WalkReads, WalkGoesDown}
 use Rattle.model.specs.State.{Trail, no_trail, along}
 use Rattle.model.specs.Steps.{between}
+pub use Rattle.kinds.specs.Limits.{last_kid}
 
 -- a party has this many slots
 abbrev pub last_slot : ℕ
 last_slot = 8
-
--- and a node so many kids
-abbrev pub last_kid : ℕ
-last_kid = 3
 
 -- the first of several faults that is there
 abbrev pub first_fault : List (Bool × Refusal) → Option Refusal

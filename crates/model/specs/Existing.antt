@@ -29,12 +29,12 @@ module _ {D W A B : Type 0} (X : Setting D W A B) where
   -- each count is the number of slots, inboxes, trays and kids naming the node, plus one for each party that carries it
   abbrev pub CountsAreReferences : Type 0
   CountsAreReferences = (F : System D W A B) → CanExist F → (n : ℕ) → 1 ≤ n → n ≤ X.nodes → F.store.count n
-      ≡ in_slots X.parties F.store.slot n + in_boxes X.parties F.store.inbox n + in_trays X.parties F.store.tray n + carried X.parties F.store.run n + in_kids X.nodes F.store.kids n
+      ≡ references X.parties X.nodes F.store n
 
   abbrev pub NoNodeReachesItself : Type 0
   NoNodeReachesItself = (F : System D W A B) → CanExist F → Acyclic F.store.kids
 
-  -- no node has more references than eight slots, an inbox, a tray and two hands of each party and three kids of each node
+  -- no count exceeds this number
   abbrev pub CountsAreAtMost : ℕ → Type 0
   CountsAreAtMost most = (F : System D W A B) → CanExist F → (n : ℕ) → 1 ≤ n → n ≤ X.nodes → F.store.count n ≤ most
 

@@ -8,7 +8,7 @@ use Rattle.model.specs.Types.{Lengths, Ok, Err, Kids, Plan, Enter, Up, Leave, Re
 use Rattle.model.specs.State.{kid_at, empty_kids, Trail, no_trail, along, last_of, longer, shorter}
 use Rattle.model.specs.Checks.{begin_fault}
 use Rattle.model.specs.Begins.{kid_of}
-use Rattle.model.specs.Reach.{Reach, InTerm}
+use Rattle.model.specs.Reach.{Unreached, InTerm}
 use Rattle.model.specs.Setting.{Setting}
 
 pub record Plain (D : Type 0) : Type 0 where
@@ -70,7 +70,7 @@ module _ {D : Type 0} where
 module _ {D W A B : Type 0} (X : Setting D W A B) where
   -- one of the nodes that no slot or inbox reaches
   abbrev pub OutOfReach : Plain D → ℕ → Type 0
-  OutOfReach s n = (1 ≤ n) × (n ≤ X.nodes) × (Reach X.parties s.slot s.inbox s.kids n → ⊥)
+  OutOfReach s n = Unreached X.parties X.nodes s.slot s.inbox s.kids n
 
   -- an accepted call or walk of the party p: what it tells, and the store after it
   pub data Happens (s : Plain D) (p : ℕ) : Asked D → Outcome D W → Plain D → Type 0 where

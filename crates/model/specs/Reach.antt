@@ -14,8 +14,11 @@ abbrev pub Reached : {D : Type 0} → ℕ → Store D → ℕ → Type 0
 Reached N s n = Reach N s.slot s.inbox s.kids n
 
 -- one of the nodes 1 to M that is out of reach
+abbrev pub Unreached : ℕ → ℕ → (ℕ → ℕ → ℕ) → (ℕ → ℕ) → (ℕ → Kids) → ℕ → Type 0
+Unreached N M slots inbox kids n = (1 ≤ n) × (n ≤ M) × (Reach N slots inbox kids n → ⊥)
+
 abbrev pub Lost : {D : Type 0} → ℕ → ℕ → Store D → ℕ → Type 0
-Lost N M s n = (1 ≤ n) × (n ≤ M) × (Reached N s n → ⊥)
+Lost N M s n = Unreached N M s.slot s.inbox s.kids n
 
 abbrev pub Free : {D : Type 0} → ℕ → Store D → ℕ → Type 0
 Free M s n = (1 ≤ n) × (n ≤ M) × (s.count n ≡ 0) × (s.lock n ≡ 0)

@@ -118,7 +118,7 @@ abbrev pub is_turn_of : {D : Type 0} → ℕ → Event D → Bool
 is_turn_of p e = elim e [ Begins q a l ↦ false | Turns q l ↦ nat_eq p q | WalkTurns q l ↦ nat_eq p q ]
 
 module _ {D W : Type 0} where
-  -- the outcome of an accepted Turn, or of a Begin that is not refused with 11
+  -- the outcome of a Turn that was accepted; one that is told 17, 18 or 19 was
   abbrev pub is_accepted : Outcome D W → Bool
   is_accepted o = elim o [ Err e ↦ ends_call e | Ok progress ↦ true ]
 
