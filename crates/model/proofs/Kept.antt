@@ -13,6 +13,7 @@ use Rattle.model.specs.Opened.{New, Sized}
 use Rattle.model.specs.Existing.{CanExist, new, moved as then-moved, CountsAreReferences, NoNodeReachesItself, CountsAreAtMost, NoTrailOutgrowsTheNodes, IsPath, TrailsArePaths}
 use Rattle.model.proofs.Accepted.{turn_passed, walk_turn_passed}
 use Rattle.model.proofs.Begins.{sound_started, sound_started_walk}
+use Rattle.model.proofs.Carried.{refs_are_references}
 use Rattle.model.proofs.Bounds.{few_slots, few_boxes, few_trays, few_carriers, few_kids}
 use Rattle.model.proofs.NewStore.{new_sound}
 use Rattle.model.proofs.Reached.{no_circle}
@@ -94,7 +95,7 @@ module _ {D W A B : Type 0} (X : Setting D W A B) where
   existing_kept F (then-moved {F = E} c m) = moves_keep (existing_kept E c) m
 
   pub counts_are_references : CountsAreReferences X
-  counts_are_references F c n low high = (existing_kept F c).sound.inv.counts n low
+  counts_are_references F c n low high = (existing_kept F c).sound.inv.counts n low ∙ refs_are_references X.parties X.nodes F.store n low
 
   pub no_node_reaches_itself : NoNodeReachesItself X
   no_node_reaches_itself F c = no_circle F.store.kids (existing_kept F c).sound.ranked

@@ -21,6 +21,7 @@ pub mod Accepted
 pub mod Stepped
 pub mod NewStore
 pub mod Tells
+pub mod Carried
 pub mod Kept
 pub mod Logs
 pub mod Fitting

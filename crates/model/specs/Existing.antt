@@ -1,10 +1,10 @@
 -- Every store that can exist: a new one, and what any Begins and Turns make of it. What is promised of each.
-use Rattle.std.specs.Prelude.{◌≡◌, ◌≢◌, ℕ, ◌+◌, ◌≤◌, ◌∷◌, length}
+use Rattle.std.specs.Prelude.{◌≡◌, ◌≢◌, ℕ, ◌≤◌, ◌∷◌, length}
 use Rattle.model.specs.Types.{Kids, Event, Situation, Outcome}
 use Rattle.model.specs.State.{Trail, no_trail, along}
 use Rattle.model.specs.Checks.{last_slot}
 use Rattle.model.specs.Reach.{Acyclic, Chain}
-use Rattle.model.specs.Inv.{in_slots, in_boxes, in_trays, in_kids, carried}
+use Rattle.model.specs.References.{references}
 use Rattle.model.specs.Setting.{Setting}
 use Rattle.model.specs.Plain.{WorksOut, TermHas}
 use Rattle.model.specs.Runs.{System, Moves}

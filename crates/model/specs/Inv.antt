@@ -1,9 +1,11 @@
 -- What every store that can exist keeps of its counts, locks, trays and running calls.
 use Rattle.std.specs.Prelude.{◌≡◌, ℕ, suc, ◌+◌, ◌<◌, ◌≤◌, ◌≢◌}
 use Rattle.model.specs.Fun.{sum_to, is}
-use Rattle.model.specs.Types.{Kid, First, Kids, Tray, Closed, Open, Holding, Place, OpenTray, ReadTray, LookForNode, LockNode, Recheck, UnlockAndGoBack, ReadKid, ClearKid, UncountKid, Claim, Unlock, Offer, KeepForOneself, GiveBack, CloseTray, WriteData, CountKid, LinkKid, Job, Makes, Sweeps, Running, Idle, Reads, GoesDown, Keeps, Drops, Hands, Fetches, TakesOut, Works, WalkReads, WalkGoesDown}
+use Rattle.model.specs.Types.{Kid, First, Kids, Tray, Holding, Place, OpenTray, ReadTray, LookForNode, LockNode, Recheck, UnlockAndGoBack, ReadKid, ClearKid, UncountKid, Claim, Unlock, Offer, KeepForOneself, GiveBack, CloseTray, WriteData, CountKid, LinkKid, Job, Makes, Sweeps, Running, Idle, Reads, GoesDown, Keeps, Drops, Hands, Fetches, TakesOut, Works, WalkReads, WalkGoesDown}
 use Rattle.model.specs.State.{position, kid_at, Store}
 use Rattle.model.specs.Checks.{last_slot}
+unfoldable pub use Rattle.model.specs.References.{occ, in_slots, in_boxes, in_trays, in_kids}
+pub use Rattle.model.specs.References.{tray_node}
 
 -- what a party's place in its call relies on, of the shared words and of its slots; 0 where it relies on nothing
 pub record Reliance : Type 0 where
@@ -93,31 +95,11 @@ needs_of (Fetches i) = record { into = i; source = 0; wants = λ k. 0; boxed = 0
 needs_of (Hands i q) = record { into = 0; source = i; wants = λ k. 0; boxed = 0 }
 needs_of (TakesOut i v) = record { into = i; source = 0; wants = λ k. 0; boxed = v }
 
-abbrev pub tray_node : Tray → ℕ
-tray_node Closed = 0
-tray_node Open = 0
-tray_node (Holding n) = n
-
-unfoldable pub occ : Kids → ℕ → ℕ
-occ ks n = is ks.first n + is ks.second n + is ks.third n
-
 unfoldable pub carry : Reliance → ℕ → ℕ
 carry c n = is c.one n + is c.other n
 
-unfoldable pub in_slots : ℕ → (ℕ → ℕ → ℕ) → ℕ → ℕ
-in_slots N f n = sum_to N (λ q. sum_to last_slot (λ i. is (f q i) n))
-
-unfoldable pub in_boxes : ℕ → (ℕ → ℕ) → ℕ → ℕ
-in_boxes N f n = sum_to N (λ q. is (f q) n)
-
-unfoldable pub in_trays : ℕ → (ℕ → Tray) → ℕ → ℕ
-in_trays N f n = sum_to N (λ q. is (tray_node (f q)) n)
-
 unfoldable pub carried : {D : Type 0} → ℕ → (ℕ → Running D) → ℕ → ℕ
 carried N f n = sum_to N (λ q. carry (reliance (f q)) n)
-
-unfoldable pub in_kids : ℕ → (ℕ → Kids) → ℕ → ℕ
-in_kids M f n = sum_to M (λ m. occ (f m) n)
 
 abbrev pub refs : {D : Type 0} → ℕ → ℕ → Store D → ℕ → ℕ
 refs N M s n = in_slots N s.slot n + in_boxes N s.inbox n + in_trays N s.tray n + carried N s.run n + in_kids M s.kids n

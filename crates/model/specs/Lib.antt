@@ -7,6 +7,7 @@ pub mod Checks
 pub mod Begins
 pub mod Party
 pub mod Reach
+pub mod References
 pub mod Inv
 pub mod Sound
 pub mod Walks

@@ -1,6 +1,6 @@
 // What stands in the store's words, for whoever wants to see it between two turns.
 ghost use Rattle.std.specs.Prelude.{◌≡◌, true, false, MatchOption};
-ghost use Rattle.model.specs.Inv.{refs};
+ghost use Rattle.model.specs.References.{references};
 ghost use Rattle.model.specs.Reach.{Acyclic};
 ghost use Rattle.model.specs.Steps.{between};
 ghost use Rattle.cells.specs.View.{view_of, record_of, parties_of, nodes_of};
@@ -18,7 +18,7 @@ impl<K: Kind, U: Order + Drop, V: Order + Drop> Store<K, U, V> {
     // steps; 0 for what is no node.
     pub fn count(&self, n: Node) -> Count
         ensures value { result ≡ (view_of self.now.cells).count n }
-        ensures references { between 1 (nodes_of self.now.cells) n ≡ true → result ≡ refs (parties_of self.now.cells) (nodes_of self.now.cells) (view_of self.now.cells) n }
+        ensures references { between 1 (nodes_of self.now.cells) n ≡ true → result ≡ references (parties_of self.now.cells) (nodes_of self.now.cells) (view_of self.now.cells) n }
     {
         match self.cells.words(n) {
             Some(words) => words.count,
