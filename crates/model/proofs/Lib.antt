@@ -28,6 +28,7 @@ pub mod Fitting
 pub mod FitsAlways
 pub mod Resting
 pub mod Others
+pub mod OneWord
 pub mod BriefCalls
 pub mod OtherCallsEnd
 pub mod NewOpened

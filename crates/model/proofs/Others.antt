@@ -1,7 +1,7 @@
 -- What a Begin or a Turn of one party leaves alone: the other parties' running calls.
 use Rattle.std.proofs.Common.{◌≡◌, ℕ, ◌≢◌, Some, None, Option, refl, ap, ◌∙◌}
-use Rattle.model.specs.Types.{Event, Begins, Turns, WalkTurns, Kid, ReadNothing, WalkReads, WalkGoesDown, Call, Enter, Up, Leave, Situation, Outcome, Address, Nowhere, DataOf, Word, NoWord, CountWord, LockWord, KidWord, DataWord, InboxWord, TrayWord, Change, Stays, Fills, Lengthens, Told, Tells, Settles, Decision}
-use Rattle.model.specs.State.{shorter, Store, set_run}
+use Rattle.model.specs.Types.{Event, Begins, Turns, WalkTurns, Kid, ReadNothing, Running, WalkReads, WalkGoesDown, Call, Enter, Up, Leave, Situation, Outcome, Address, Nowhere, DataOf, Word, NoWord, CountWord, LockWord, KidWord, DataWord, InboxWord, TrayWord, Change, Stays, Fills, Lengthens, Told, Tells, Settles, Decision}
+use Rattle.model.specs.State.{Trail, shorter, Store, set_run}
 use Rattle.model.specs.Steps.{written, changed, stepped, looks_at, decision}
 use Rattle.model.specs.Begins.{started}
 use Rattle.model.specs.Walks.{resumes, gone_up, first_unmarked}
@@ -16,24 +16,29 @@ party_of (Turns p l) = p
 party_of (WalkTurns p l) = p
 
 module _ {D : Type 0} where
-  -- writing a word, a slot or a trail runs nothing
-  written_runs : (s : Store D) (a : Address) (w : Word D) → (written s a w).run ≡ s.run
-  written_runs s Nowhere w = refl
-  written_runs s (DataOf n) w = refl
-  written_runs s _ NoWord = refl
-  written_runs s _ (CountWord v) = refl
-  written_runs s _ (LockWord v) = refl
-  written_runs s _ (KidWord v) = refl
-  written_runs s _ (DataWord v) = refl
-  written_runs s _ (InboxWord v) = refl
-  written_runs s _ (TrayWord v) = refl
+  -- what parties have for themselves
+  abbrev pub own_of : Store D → (ℕ → ℕ → ℕ) × (ℕ → Trail) × (ℕ → Running D)
+  own_of s = (s.slot, s.trail, s.run)
 
+  -- writing a word leaves that
+  pub written_own : (s : Store D) (a : Address) (w : Word D) → own_of (written s a w) ≡ own_of s
+  written_own s Nowhere w = refl
+  written_own s (DataOf n) w = refl
+  written_own s _ NoWord = refl
+  written_own s _ (CountWord v) = refl
+  written_own s _ (LockWord v) = refl
+  written_own s _ (KidWord v) = refl
+  written_own s _ (DataWord v) = refl
+  written_own s _ (InboxWord v) = refl
+  written_own s _ (TrayWord v) = refl
+
+  -- filling a slot or lengthening a trail runs nothing
   changed_runs : (s : Store D) (p : ℕ) (c : Change) → (changed s p c).run ≡ s.run
   changed_runs s p Stays = refl
   changed_runs s p (Fills i v) = refl
   changed_runs s p (Lengthens n) = refl
 
-  started_others : (c : Call D) (s : Store D) (p q : ℕ) → q ≢ p → (started c s p).run q ≡ s.run q
+  pub started_others : (c : Call D) (s : Store D) (p q : ℕ) → q ≢ p → (started c s p).run q ≡ s.run q
   started_others (Enter i) s p q d = refl
   started_others Up s p q d = refl
   started_others Leave s p q d = refl
@@ -46,11 +51,11 @@ module _ {D W : Type 0} (N M : ℕ) (s : Store D) (info : ℕ → D) (p x : ℕ)
 
   pub stepped_others : (q : ℕ) → q ≢ p → (stepped N M s info p x d).run q ≡ s.run q
   stepped_others q ne = upd_other (changed (written s (looks_at N M s p x) d.word) p d.change).run p q d.next ne
-      ∙ ap (λ f. f q) (changed_runs (written s (looks_at N M s p x) d.word) p d.change) ∙ ap (λ f. f q) (written_runs s (looks_at N M s p x) d.word)
+      ∙ ap (λ f. f q) (changed_runs (written s (looks_at N M s p x) d.word) p d.change) ∙ ap (λ u. u.2 q) (written_own s (looks_at N M s p x) d.word)
 
 module _ {D W A B : Type 0} (X : Setting D W A B) where
   -- where a walk goes when it has settled its node
-  abbrev settled_by : Option Kid → Store D → ℕ → Situation → Store D
+  abbrev pub settled_by : Option Kid → Store D → ℕ → Situation → Store D
   settled_by o s p t = elim o [ Some k ↦ set_run s p (WalkGoesDown t k) | None ↦ gone_up X.worth X.blank s p t ]
 
   settled_by_lem : (o : Option Kid) (s : Store D) (p : ℕ) (t : Situation) (q : ℕ) → q ≢ p → (settled_by o s p t).run q ≡ s.run q

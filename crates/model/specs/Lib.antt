@@ -17,6 +17,7 @@ pub mod Runs
 pub mod Opened
 pub mod Law
 pub mod Existing
+pub mod OneWord
 pub mod Shown
 pub mod PlaceTexts
 pub mod SmallStore

@@ -2,6 +2,7 @@
 #![tactic(auto)]
 
 pub mod calls;
+pub mod changes;
 pub mod ending;
 pub mod entries;
 pub mod existing;
