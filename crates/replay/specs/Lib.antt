@@ -1,4 +1,5 @@
 pub mod Numbers
+pub mod NumbersLemmas
 pub mod Requests
 pub mod Openings
 pub mod Turns

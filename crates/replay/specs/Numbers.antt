@@ -1,5 +1,6 @@
 -- The numbers by which data, worths, parties and slots stand on a sheet.
-use Rattle.std.specs.Prelude.{ℕ, ◌^◌, ◌-◌, ℤ, pos, negsuc, cond, nat_lt}
+use Rattle.std.specs.Prelude.{◌≡◌, ℕ, ◌^◌, ◌-◌, ℤ, pos, negsuc, Bool, false, cond, nat_lt}
+use Rattle.kinds.specs.declared.kids.PerKid.{PerKid}
 use Rattle.kinds.specs.declared.maps.MapData.{MapData}
 use Rattle.kinds.specs.declared.traces.TraceData.{TraceData}
 use Rattle.kinds.specs.declared.traces.Worst.{Worst}
@@ -21,8 +22,17 @@ pub record SheetNumbers (D W : Type 0) : Type 0 where
   pub data_numbers : D → ℤ × ℤ
   pub worth_numbers : W → ℤ × ℤ
 
-abbrev pub numbers : {D W : Type 0} → (ℤ → ℤ → D) → (D → ℤ × ℤ) → (W → ℤ × ℤ) → SheetNumbers D W
-numbers on_sheet data_numbers worth_numbers = record { on_sheet = on_sheet; data_numbers = data_numbers; worth_numbers = worth_numbers }
+module _ {D W : Type 0} (sheet : SheetNumbers D W) (Storable : D → Type 0) where
+  -- data that is shown as numbers, and read from them again, is the same data
+  abbrev pub ReadAgain : Type 0
+  ReadAgain = (d : D) → Storable d → sheet.on_sheet (sheet.data_numbers d).0 (sheet.data_numbers d).1 ≡ d
+
+  abbrev pub StandsFor : ℤ → ℤ → D → Type 0
+  StandsFor fourth fifth d = Storable d × (sheet.data_numbers d ≡ (fourth, fifth))
+
+  -- numbers that stand for no data of the kind are read as data that fits no kids
+  abbrev pub OthersFitNoKids : (D → PerKid Bool → Bool) → Type 0
+  OthersFitNoKids fits = (fourth fifth : ℤ) → ((d : D) → StandsFor fourth fifth d → ⊥) → (kids : PerKid Bool) → fits (sheet.on_sheet fourth fifth) kids ≡ false
 
 abbrev pub map_on : ℤ → ℤ → MapData
 map_on code number = record { code = byte_or 255 code; number = number }
@@ -41,3 +51,10 @@ trace_numbers d = (pos d.severity, pos d.hour)
 
 abbrev pub worst_numbers : Worst → ℤ × ℤ
 worst_numbers w = (pos w.severity, pos w.hour)
+
+-- how maps and traces stand on a sheet
+abbrev pub of_maps : SheetNumbers MapData ℤ
+of_maps = record { on_sheet = map_on; data_numbers = map_numbers; worth_numbers = map_worth_numbers }
+
+abbrev pub of_traces : SheetNumbers TraceData Worst
+of_traces = record { on_sheet = trace_on; data_numbers = trace_numbers; worth_numbers = worst_numbers }

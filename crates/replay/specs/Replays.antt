@@ -1,10 +1,7 @@
 -- The replies to a sheet, as text.
-use Rattle.std.specs.Prelude.{◌≡◌, ℕ, ℤ, List, ◌++◌, Some, None, Option}
+use Rattle.std.specs.Prelude.{◌≡◌, ℕ, List, ◌++◌, Some, None, Option}
 use Rattle.std.specs.List.{flat_map}
 use Rattle.kinds.specs.declared.kind.Kind.{Ghosts as KindMeaning}
-use Rattle.kinds.specs.declared.maps.MapData.{MapData}
-use Rattle.kinds.specs.declared.traces.TraceData.{TraceData}
-use Rattle.kinds.specs.declared.traces.Worst.{Worst}
 use Rattle.kinds.specs.contracts.maps.MapsKind.TheImpl as maps
 use Rattle.kinds.specs.contracts.traces.TracesKind.TheImpl as traces
 use Rattle.sheet.specs.declared.headings.SheetOf.TheVariants.{Maps, Traces}
@@ -12,7 +9,7 @@ use Rattle.sheet.specs.declared.replies.Reply.{Reply}
 use Rattle.sheet.specs.Headings.{heading_of}
 use Rattle.sheet.specs.Lines.{lines_of}
 use Rattle.sheet.specs.Replies.{names_line, reply_line}
-use Rattle.replay.specs.Numbers.{SheetNumbers, numbers, map_on, map_numbers, map_worth_numbers, trace_on, trace_numbers, worst_numbers}
+use Rattle.replay.specs.Numbers.{SheetNumbers, of_maps, of_traces}
 use Rattle.replay.specs.Stages.{Replayed, Stage, coded}
 
 module _ {K D W : Type 0} (kind : KindMeaning K D W) (sheet : SheetNumbers D W) where
@@ -22,13 +19,6 @@ module _ {K D W : Type 0} (kind : KindMeaning K D W) (sheet : SheetNumbers D W) 
     pub after : Option (Stage D W)
     pub replayed : Replayed kind sheet (lines_of lines) replies after
     pub written : out' ≡ out ++ flat_map reply_line replies
-
--- how maps and traces stand on a sheet
-abbrev pub of_maps : SheetNumbers MapData ℤ
-of_maps = numbers map_on map_numbers map_worth_numbers
-
-abbrev pub of_traces : SheetNumbers TraceData Worst
-of_traces = numbers trace_on trace_numbers worst_numbers
 
 -- a sheet that is too long or begins otherwise is answered with 91 alone
 abbrev pub Replays : List ℕ → List ℕ → Type 0

@@ -10,13 +10,10 @@ use Rattle.model.specs.declared.calls.Asked.{Asked}
 use Rattle.model.specs.declared.calls.Event.{Event}
 use Rattle.model.specs.declared.calls.Event.TheVariants.{Begins}
 use Rattle.model.specs.declared.outcomes.Answer.{Answer}
-use Rattle.model.specs.declared.outcomes.Progress.{Progress}
 use Rattle.model.specs.declared.outcomes.Answer.TheVariants.{Done, AtNode, Contents, Swept, WorthIs}
 use Rattle.model.specs.declared.outcomes.Progress.TheVariants.{Begun, StillRunning, Ended}
 use Rattle.model.specs.Types.{Outcome}
 use Rattle.model.specs.Shown.{outcome_number}
-use Rattle.model.specs.Law.{HoldsAfter}
-use Rattle.model.specs.Plain.{Plain, NewPlain, Ask}
 use Rattle.model.specs.Runs.{System, Moves, Run}
 use Rattle.model.specs.Setting.{Setting, setting_for}
 use Rattle.store.specs.declared.errors.OpenError.TheVariants.{Refused}

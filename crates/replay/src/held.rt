@@ -1,6 +1,5 @@
 // The store that a sheet has opened, and what one line does to it.
 ghost use Rattle.std.specs.Prelude.{◌≡◌, ◌≤◌, Option, IfOk, Some};
-ghost use Rattle.replay.specs.Numbers.{numbers};
 ghost use Rattle.replay.specs.Stages.{asked_on};
 ghost use Rattle.replay.specs.Standing.{CarriesOutLine};
 ghost use Rattle.replay.specs.declared.requests.Request.TheVariants.{Open, Begin, Turn};
@@ -26,7 +25,7 @@ pub(crate) fn answer<K: OnSheet>(
     heap: Global,
     line: Line,
 ) -> Result<Reply, AllocError>
-    ensures { IfOk result (λ reply. CarriesOutLine (numbers K.OnSheet.on_sheet K.OnSheet.data_numbers K.OnSheet.worth_numbers) line.number line.values held.old held.new reply) }
+    ensures { IfOk result (λ reply. CarriesOutLine K.OnSheet.numbers line.number line.values held.old held.new reply) }
 {
     let Some(values) = line.values else {
         return Ok(code_alone(line.number, MALFORMED));
@@ -48,7 +47,7 @@ fn open_another<K: OnSheet>(
     number: usize,
     opening: Opening,
 ) -> Result<Reply, AllocError>
-    ensures { IfOk result (λ reply. (values : Option Values) → asked_on (numbers K.OnSheet.on_sheet K.OnSheet.data_numbers K.OnSheet.worth_numbers) values ≡ Some (Open opening) → CarriesOutLine (numbers K.OnSheet.on_sheet K.OnSheet.data_numbers K.OnSheet.worth_numbers) number values held.old held.new reply) }
+    ensures { IfOk result (λ reply. (values : Option Values) → asked_on K.OnSheet.numbers values ≡ Some (Open opening) → CarriesOutLine K.OnSheet.numbers number values held.old held.new reply) }
 {
     match open::<K>(heap, opening) {
         Ok(session) => {
@@ -66,7 +65,7 @@ fn begin<K: OnSheet>(
     party: Party,
     asked: Asked<K::Data>,
 ) -> Reply
-    ensures { (values : Option Values) → asked_on (numbers K.OnSheet.on_sheet K.OnSheet.data_numbers K.OnSheet.worth_numbers) values ≡ Some (Begin party asked) → CarriesOutLine (numbers K.OnSheet.on_sheet K.OnSheet.data_numbers K.OnSheet.worth_numbers) number values held.old held.new result }
+    ensures { (values : Option Values) → asked_on K.OnSheet.numbers values ≡ Some (Begin party asked) → CarriesOutLine K.OnSheet.numbers number values held.old held.new result }
 {
     let Some(session) = held else {
         return code_alone(number, NO_STORE);
@@ -85,7 +84,7 @@ fn turn<K: OnSheet>(
     most: u16,
 ) -> Reply
     requires { 1 ≤ most }
-    ensures { (values : Option Values) → asked_on (numbers K.OnSheet.on_sheet K.OnSheet.data_numbers K.OnSheet.worth_numbers) values ≡ Some (Turn party most) → CarriesOutLine (numbers K.OnSheet.on_sheet K.OnSheet.data_numbers K.OnSheet.worth_numbers) number values held.old held.new result }
+    ensures { (values : Option Values) → asked_on K.OnSheet.numbers values ≡ Some (Turn party most) → CarriesOutLine K.OnSheet.numbers number values held.old held.new result }
 {
     let Some(session) = held else {
         return code_alone(number, NO_STORE);

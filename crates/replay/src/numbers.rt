@@ -1,5 +1,7 @@
-ghost use Rattle.std.specs.Prelude.{◌≡◌, ℤ};
-ghost use Rattle.replay.specs.Numbers.{map_on, map_numbers, map_worth_numbers, trace_on, trace_numbers, worst_numbers};
+ghost use Rattle.std.specs.Prelude.{◌≡◌};
+ghost use Rattle.std.proofs.Common.{rules};
+ghost use Rattle.replay.specs.Numbers.{SheetNumbers, ReadAgain, OthersFitNoKids, of_maps, of_traces};
+ghost use Rattle.replay.specs.NumbersLemmas.{other_map_numbers, other_trace_numbers};
 
 use kinds::kind::Kind;
 use kinds::maps::{Kpa, MapData, Maps};
@@ -7,32 +9,32 @@ use kinds::traces::{TraceData, Traces, Worst};
 
 // A kind whose data and worths stand on a sheet as two numbers each.
 pub trait OnSheet: Kind {
-    // the data that two numbers of a line are; numbers that are too large for it give data that fits no kids
-    ghost on_sheet: { ℤ → ℤ → Self.Data };
-
-    ghost data_numbers: { Self.Data → ℤ × ℤ };
-
-    ghost worth_numbers: { Self.Worth → ℤ × ℤ };
+    // how data and worths stand on a sheet
+    ghost numbers: { SheetNumbers Self.Data Self.Worth };
 
     fn read_data(fourth: i32, fifth: i32) -> Self::Data
-        ensures { result ≡ on_sheet fourth fifth };
+        ensures { result ≡ numbers.on_sheet fourth fifth };
 
     fn show_data(d: Self::Data) -> (i64, i64)
-        ensures { result ≡ data_numbers d };
+        ensures { result ≡ numbers.data_numbers d };
 
     fn show_worth(w: Self::Worth) -> (i64, i64)
-        ensures { result ≡ worth_numbers w };
+        ensures { result ≡ numbers.worth_numbers w };
+
+    ghost read_again: { ReadAgain numbers Self.storable };
+
+    ghost others_fit_no_kids: { OthersFitNoKids numbers Self.storable Self.suits };
 }
 
 // A code that no byte can hold is read as one that is not listed.
 const NO_CODE: u8 = 255;
 
 impl OnSheet for Maps {
-    ghost on_sheet = { map_on };
+    ghost numbers = { of_maps };
 
-    ghost data_numbers = { map_numbers };
+    ghost read_again = { Prim.search rules };
 
-    ghost worth_numbers = { map_worth_numbers };
+    ghost others_fit_no_kids = { other_map_numbers };
 
     fn read_data(fourth: i32, fifth: i32) -> MapData {
         MapData {
@@ -56,11 +58,11 @@ const NO_SEVERITY: u8 = 255;
 const NO_HOUR: u32 = u32::MAX;
 
 impl OnSheet for Traces {
-    ghost on_sheet = { trace_on };
+    ghost numbers = { of_traces };
 
-    ghost data_numbers = { trace_numbers };
+    ghost read_again = { Prim.search rules };
 
-    ghost worth_numbers = { worst_numbers };
+    ghost others_fit_no_kids = { other_trace_numbers };
 
     fn read_data(fourth: i32, fifth: i32) -> TraceData {
         TraceData {

@@ -1,6 +1,5 @@
 ghost use Rattle.std.specs.Prelude.{IfOk, OnOk};
 ghost use Rattle.std.specs.String.{string_bytes};
-ghost use Rattle.replay.specs.Numbers.{numbers};
 ghost use Rattle.replay.specs.Replays.{Adds, Replays};
 
 use crate::held::answer;
@@ -17,7 +16,7 @@ use std::alloc::{AllocError, Global};
 
 // Carries out the lines of a sheet, and adds the reply to each.
 fn replay_lines<K: OnSheet>(heap: Global, lines: &[u8], out: &mut String) -> Result<(), AllocError>
-    ensures { OnOk result (Adds K.Kind (numbers K.OnSheet.on_sheet K.OnSheet.data_numbers K.OnSheet.worth_numbers) lines.now (string_bytes out.old) (string_bytes out.new)) }
+    ensures { OnOk result (Adds K.Kind K.OnSheet.numbers lines.now (string_bytes out.old) (string_bytes out.new)) }
 {
     let mut held: Option<Session<K, Stride, Stride>> = None;
     let mut reader = Reader::new(lines);

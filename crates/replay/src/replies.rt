@@ -1,5 +1,4 @@
 ghost use Rattle.std.specs.Prelude.{◌≡◌};
-ghost use Rattle.replay.specs.Numbers.{numbers};
 ghost use Rattle.replay.specs.Stages.{answer_numbers, coded, told};
 
 use crate::numbers::OnSheet;
@@ -28,7 +27,7 @@ pub(crate) fn code_alone(line: usize, code: u8) -> Reply
 
 // The reply that tells an outcome.
 pub(crate) fn reply_to<K: OnSheet>(line: usize, outcome: Outcome<K::Data, K::Worth>) -> Reply
-    ensures { result ≡ told (numbers K.OnSheet.on_sheet K.OnSheet.data_numbers K.OnSheet.worth_numbers) line outcome }
+    ensures { result ≡ told K.OnSheet.numbers line outcome }
 {
     let code = outcome_number(&outcome);
     let (x, y, z) = match outcome {
@@ -46,7 +45,7 @@ pub(crate) fn reply_to<K: OnSheet>(line: usize, outcome: Outcome<K::Data, K::Wor
 
 // The three numbers by which an answer is told.
 fn values_of<K: OnSheet>(answer: Answer<K::Data, K::Worth>) -> (i64, i64, i64)
-    ensures { result ≡ answer_numbers (numbers K.OnSheet.on_sheet K.OnSheet.data_numbers K.OnSheet.worth_numbers) answer }
+    ensures { result ≡ answer_numbers K.OnSheet.numbers answer }
 {
     match answer {
         Answer::Done => (0, 0, 0),

@@ -57,7 +57,7 @@ fn size(value: i32) -> u32
 
 // What is asked for by this line of values; none where its party or its number of turns makes no sense, whatever a store says.
 pub fn asked_for<K: OnSheet>(values: Values) -> Option<Request<K::Data>>
-    ensures { result ≡ request_on K.OnSheet.on_sheet values }
+    ensures { result ≡ request_on K.OnSheet.numbers.on_sheet values }
 {
     let party = byte(values.party);
     match values.call {
@@ -103,7 +103,7 @@ fn walk_asked_for(values: Values) -> Walk
 }
 
 fn plan_asked_for<K: OnSheet>(values: Values) -> Plan<K::Data>
-    ensures { result ≡ plan_on K.OnSheet.on_sheet values }
+    ensures { result ≡ plan_on K.OnSheet.numbers.on_sheet values }
 {
     Plan {
         slot: byte(values.a),
@@ -118,7 +118,7 @@ fn plan_asked_for<K: OnSheet>(values: Values) -> Plan<K::Data>
 
 // The call that a letter names, if it names one.
 fn call_asked_for<K: OnSheet>(values: Values) -> Option<Call<K::Data>>
-    ensures { result ≡ call_on K.OnSheet.on_sheet values }
+    ensures { result ≡ call_on K.OnSheet.numbers.on_sheet values }
 {
     let slot = byte(values.a);
     match values.call {
