@@ -1,6 +1,7 @@
 -- What a line of values asks for.
 use Rattle.std.specs.Prelude.{ℕ, ℤ, pos, negsuc, Bool, false, cond, Some, None, Option, ◌==◌}
 use Rattle.std.specs.Option.{option_map}
+use Rattle.model.specs.declared.calls.Asked.{Asked}
 use Rattle.model.specs.declared.calls.Asked.TheVariants.{AsksCall, AsksWalk}
 use Rattle.model.specs.declared.calls.Call.{Call}
 use Rattle.model.specs.declared.calls.Call.TheVariants.{Enter, Up, Leave, Read, Down, Keep, Drop, Hand, Fetch, Make, Sweep}
@@ -28,36 +29,39 @@ most_turns = 9999
 abbrev pub turns_on : ℤ → Option ℕ
 turns_on a = elim a [ pos n ↦ cond (between 1 most_turns n) (Some n) None | negsuc n ↦ None ]
 
+-- the slot, and V's kid
+abbrev pub slot_on : Values → ℕ
+slot_on v = byte_or 0 v.a
+
 abbrev pub walk_on : Values → Walk
-walk_on v = record { slot = byte_or 0 v.a; range = v.fourth; gear = v.fifth; temperature = v.d }
+walk_on v = record { slot = slot_on v; range = v.fourth; gear = v.fifth; temperature = v.d }
+
+-- begins it for the line's party
+abbrev pub begin_on : {D : Type 0} → Values → Asked D → Request D
+begin_on v asked = Begin (byte_or 0 v.party) asked
+
+abbrev pub begin_call_on : {D : Type 0} → Values → Call D → Request D
+begin_call_on v call = begin_on v (AsksCall call)
 
 module _ {D : Type 0} (on_sheet : ℤ → ℤ → D) where
   abbrev pub plan_on : Values → Plan D
-  plan_on v = record { slot = byte_or 0 v.a; kids = record { first = byte_or 255 v.d; second = byte_or 255 v.e; third = byte_or 255 v.f }; given = on_sheet v.fourth v.fifth }
+  plan_on v = record { slot = slot_on v; kids = record { first = byte_or 255 v.d; second = byte_or 255 v.e; third = byte_or 255 v.f }; given = on_sheet v.fourth v.fifth }
 
-  -- the call that a letter names, with its arguments
-  abbrev pub call_on : Values → Option (Call D)
-  call_on v = elim v.call [
-    | letter_M ↦ Some (Make (plan_on v))
-    | letter_R ↦ Some Read
-    | letter_K ↦ Some (Keep (byte_or 0 v.a))
-    | letter_D ↦ Some (Drop (byte_or 0 v.a))
-    | letter_H ↦ Some (Hand (byte_or 0 v.a) (byte_or 0 v.fourth))
-    | letter_F ↦ Some (Fetch (byte_or 0 v.a))
-    | letter_E ↦ Some (Enter (byte_or 0 v.a))
-    | letter_V ↦ Some (Down (byte_or 0 v.a))
-    | letter_U ↦ Some Up
-    | letter_L ↦ Some Leave
-    | letter_S ↦ Some Sweep
-    | letter_N ↦ None
-    | letter_T ↦ None
-    | letter_W ↦ None
-  ]
-
+  -- what each letter asks for
   abbrev pub request_on : Values → Option (Request D)
   request_on v = elim v.call [
     | letter_N ↦ option_map (λ o. Open o) (opening_on v)
     | letter_T ↦ option_map (λ n. Turn (byte_or 0 v.party) n) (turns_on v.a)
-    | letter_W ↦ Some (Begin (byte_or 0 v.party) (AsksWalk (walk_on v)))
-    | _ ↦ option_map (λ c. Begin (byte_or 0 v.party) (AsksCall c)) (call_on v)
+    | letter_W ↦ Some (begin_on v (AsksWalk (walk_on v)))
+    | letter_M ↦ Some (begin_call_on v (Make (plan_on v)))
+    | letter_R ↦ Some (begin_call_on v Read)
+    | letter_K ↦ Some (begin_call_on v (Keep (slot_on v)))
+    | letter_D ↦ Some (begin_call_on v (Drop (slot_on v)))
+    | letter_H ↦ Some (begin_call_on v (Hand (slot_on v) (byte_or 0 v.fourth)))
+    | letter_F ↦ Some (begin_call_on v (Fetch (slot_on v)))
+    | letter_E ↦ Some (begin_call_on v (Enter (slot_on v)))
+    | letter_V ↦ Some (begin_call_on v (Down (slot_on v)))
+    | letter_U ↦ Some (begin_call_on v Up)
+    | letter_L ↦ Some (begin_call_on v Leave)
+    | letter_S ↦ Some (begin_call_on v Sweep)
   ]

@@ -1,6 +1,6 @@
 ghost use Rattle.std.specs.Prelude.{◌≡◌};
 ghost use Rattle.replay.specs.Numbers.{byte_or, word_or};
-ghost use Rattle.replay.specs.Requests.{call_on, opening_on, plan_on, request_on, turns_on, walk_on};
+ghost use Rattle.replay.specs.Requests.{begin_on, begin_call_on, opening_on, plan_on, request_on, turns_on, walk_on};
 
 use crate::numbers::OnSheet;
 use kinds::kids::PerKid;
@@ -60,12 +60,36 @@ pub fn asked_for<K: OnSheet>(values: Values) -> Option<Request<K::Data>>
     ensures { result ≡ request_on K.OnSheet.numbers.on_sheet values }
 {
     let party = byte(values.party);
+    let slot = byte(values.a);
     match values.call {
         Letter::NewStore => opening_asked_for(values).map(|o| Request::Open(o)),
         Letter::Turns => turns_asked_for(values.a).map(|n| Request::Turn(party, n)),
-        Letter::Walk => Some(Request::Begin(party, Asked::AsksWalk(walk_asked_for(values)))),
-        _ => call_asked_for::<K>(values).map(|c| Request::Begin(party, Asked::AsksCall(c))),
+        Letter::Walk => Some(begin(values, Asked::AsksWalk(walk_asked_for(values)))),
+        Letter::Make => Some(begin_call(values, Call::Make(plan_asked_for::<K>(values)))),
+        Letter::Read => Some(begin_call(values, Call::Read)),
+        Letter::Keep => Some(begin_call(values, Call::Keep(slot))),
+        Letter::Drop => Some(begin_call(values, Call::Drop(slot))),
+        Letter::Hand => Some(begin_call(values, Call::Hand(slot, byte(values.fourth)))),
+        Letter::Fetch => Some(begin_call(values, Call::Fetch(slot))),
+        Letter::Enter => Some(begin_call(values, Call::Enter(slot))),
+        Letter::Down => Some(begin_call(values, Call::Down(slot))),
+        Letter::Up => Some(begin_call(values, Call::Up)),
+        Letter::Leave => Some(begin_call(values, Call::Leave)),
+        Letter::Sweep => Some(begin_call(values, Call::Sweep)),
     }
+}
+
+// Begins it for the party of the line.
+fn begin<D>(values: Values, asked: Asked<D>) -> Request<D>
+    ensures { result ≡ begin_on values asked }
+{
+    Request::Begin(byte(values.party), asked)
+}
+
+fn begin_call<D>(values: Values, call: Call<D>) -> Request<D>
+    ensures { result ≡ begin_call_on values call }
+{
+    begin(values, Asked::AsksCall(call))
 }
 
 fn opening_asked_for(values: Values) -> Option<Opening>
@@ -113,26 +137,5 @@ fn plan_asked_for<K: OnSheet>(values: Values) -> Plan<K::Data>
             third: kid_slot(values.f),
         },
         given: K::read_data(values.fourth, values.fifth),
-    }
-}
-
-// The call that a letter names, if it names one.
-fn call_asked_for<K: OnSheet>(values: Values) -> Option<Call<K::Data>>
-    ensures { result ≡ call_on K.OnSheet.numbers.on_sheet values }
-{
-    let slot = byte(values.a);
-    match values.call {
-        Letter::Make => Some(Call::Make(plan_asked_for::<K>(values))),
-        Letter::Read => Some(Call::Read),
-        Letter::Keep => Some(Call::Keep(slot)),
-        Letter::Drop => Some(Call::Drop(slot)),
-        Letter::Hand => Some(Call::Hand(slot, byte(values.fourth))),
-        Letter::Fetch => Some(Call::Fetch(slot)),
-        Letter::Enter => Some(Call::Enter(slot)),
-        Letter::Down => Some(Call::Down(slot)),
-        Letter::Up => Some(Call::Up),
-        Letter::Leave => Some(Call::Leave),
-        Letter::Sweep => Some(Call::Sweep),
-        Letter::NewStore | Letter::Turns | Letter::Walk => None,
     }
 }
