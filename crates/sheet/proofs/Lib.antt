@@ -1,3 +1,4 @@
+pub mod LinesCut
 pub mod DigitCounts
 pub mod FieldsOfTexts
 pub mod LinesOfTexts

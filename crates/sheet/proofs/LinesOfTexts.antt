@@ -10,9 +10,11 @@ use Rattle.sheet.specs.declared.cuts.Ending.TheVariants.{Space, LineEnd, SheetEn
 use Rattle.sheet.specs.declared.columns.Columns.{Columns}
 use Rattle.sheet.specs.declared.columns.Place.TheVariants.{BehindEnd}
 use Rattle.sheet.specs.declared.lines.Values.{Values}
+use Rattle.sheet.proofs.LinesCut.{lines_of-first, onto_first_line}
+use Rattle.sheet.specs.Bytes.{line_end_byte, space_byte}
 use Rattle.sheet.specs.Columns.{ended_at, following, no_columns, read_at, values_taken, with_part}
 use Rattle.sheet.specs.Fields.{IsCut, IsInside, lines_ended}
-use Rattle.sheet.specs.Lines.{TextLine, fields_of, first_line, head_line, line_text, lines_of, onto_first_line, values_in, values_on}
+use Rattle.sheet.specs.Lines.{TextLine, fields_of, first_line, head_line, line_text, lines_of, values_in, values_on}
 
 -- all of these parts taken
 abbrev pub columns_after : Columns → List (List ℕ) → Columns
@@ -53,7 +55,7 @@ values_taken-all (p ∷ c ∷ a ∷ x ∷ y ∷ d ∷ e ∷ f ∷ []) = refl
 values_taken-all (p ∷ c ∷ a ∷ x ∷ y ∷ d ∷ e ∷ f ∷ more ∷ fields) = taken_too_many _ fields refl
 
 lines_of-cons : (b : ℕ) (bs : List ℕ) → IsInside b → lines_of (b ∷ bs) ≡ onto_first_line b (lines_of bs)
-lines_of-cons b bs inside = rw (ne_eqb b 10 inside.1) refl
+lines_of-cons b bs inside = lines_of-first b bs ∙ ap (λ ends. cond ends (([], true) ∷ lines_of bs) (onto_first_line b (lines_of bs))) (ne_eqb b line_end_byte inside.1)
 
 -- bytes in front of the first line
 abbrev onto_line : List ℕ → List TextLine → List TextLine
@@ -75,15 +77,15 @@ onto_line-none b (c ∷ cs) = ap (onto_first_line b) (onto_line-none c cs)
 
 -- a part is one field, and so is the part before a space
 fields_of-part : (part : List ℕ) → All IsInside part → fields_of part ≡ part ∷ []
-fields_of-part part plain = slice_split_none _ part (All-weaker IsInside _ (λ b inside. ne_eqb b 32 inside.0) part plain)
+fields_of-part part plain = slice_split_none _ part (All-weaker IsInside _ (λ b inside. ne_eqb b space_byte inside.0) part plain)
 
-fields_of-space : (part bs : List ℕ) → All IsInside part → fields_of (part ++ 32 ∷ bs) ≡ part ∷ fields_of bs
-fields_of-space part bs plain = slice_split_at _ part 32 bs (All-weaker IsInside _ (λ b inside. ne_eqb b 32 inside.0) part plain) refl
+fields_of-space : (part bs : List ℕ) → All IsInside part → fields_of (part ++ space_byte ∷ bs) ≡ part ∷ fields_of bs
+fields_of-space part bs plain = slice_split_at _ part space_byte bs (All-weaker IsInside _ (λ b inside. ne_eqb b space_byte inside.0) part plain) refl
 
-outcome-space : (columns : Columns) (part : List ℕ) (lines : List TextLine) → All IsInside part → outcome columns (onto_line part (onto_first_line 32 lines)) ≡ outcome (with_part columns part) lines
-outcome-space columns part [] plain = ap (outcome columns) (onto_line-some part (32 ∷ [], false) [])
+outcome-space : (columns : Columns) (part : List ℕ) (lines : List TextLine) → All IsInside part → outcome columns (onto_line part (onto_first_line space_byte lines)) ≡ outcome (with_part columns part) lines
+outcome-space columns part [] plain = ap (outcome columns) (onto_line-some part (space_byte ∷ [], false) [])
 outcome-space columns part (line ∷ lines) plain =
-    ap (outcome columns) (onto_line-some part (32 ∷ line.0, line.1) lines)
+    ap (outcome columns) (onto_line-some part (space_byte ∷ line.0, line.1) lines)
     ∙ ap (λ (fields : List (List ℕ)). (cond line.1 (values_taken (columns_after columns fields)) None, lines)) (fields_of-space part line.0 plain)
 
 outcome-unended : (columns : Columns) (part : List ℕ) → outcome columns (onto_line part []) ≡ (None, [])
@@ -94,7 +96,7 @@ outcome-unended columns (b ∷ bs) = ap (outcome columns) (onto_line-none b bs)
 pub outcome-goes_on : (columns : Columns) (text part : List ℕ) (ending : Ending) (after : List ℕ) → IsCut text part ending after → lines_ended ending ≡ 0 → outcome columns (lines_of text) ≡ outcome (with_part columns part) (lines_of after)
 outcome-goes_on columns text part Space after cut same =
     ap (λ t. outcome columns (lines_of t)) cut.whole
-    ∙ ap (outcome columns) (lines_of-append part (32 ∷ after) cut.plain)
+    ∙ ap (outcome columns) (lines_of-append part (space_byte ∷ after) cut.plain ∙ ap (onto_line part) (lines_of-first space_byte after))
     ∙ outcome-space columns part (lines_of after) cut.plain
 outcome-goes_on columns text part LineEnd after cut same = absurd (omega arith)
 outcome-goes_on columns text part SheetEnd after cut same =
@@ -111,7 +113,7 @@ outcome-ends columns text part Space after cut ends = absurd (ends refl)
 outcome-ends columns text part SheetEnd after cut ends = absurd (ends refl)
 outcome-ends columns text part LineEnd after cut ends =
     ap (λ t. outcome columns (lines_of t)) cut.whole
-    ∙ ap (outcome columns) (lines_of-append part (10 ∷ after) cut.plain ∙ onto_line-some part ([], true) (lines_of after))
+    ∙ ap (outcome columns) (lines_of-append part (line_end_byte ∷ after) cut.plain ∙ ap (onto_line part) (lines_of-first line_end_byte after) ∙ onto_line-some part ([], true) (lines_of after))
     ∙ ap (λ (l : List ℕ). (values_taken (columns_after columns (fields_of l)), lines_of after)) (append-nil part)
     ∙ ap (λ (fields : List (List ℕ)). (values_taken (columns_after columns fields), lines_of after)) (fields_of-part part cut.plain)
 
@@ -120,7 +122,7 @@ values_ahead-first [] = refl
 values_ahead-first (line ∷ lines) = ap (λ values. cond line.1 values None) (values_taken-all (fields_of line.0))
 
 lines_of-some : (b : ℕ) (bs : List ℕ) → lines_of (b ∷ bs) ≢ []
-lines_of-some b bs = some_line b (lines_of bs) (b == 10)
+lines_of-some b bs e = some_line b (lines_of bs) (b == line_end_byte) (sym (lines_of-first b bs) ∙ e)
   where
     some_line : (b : ℕ) (lines : List TextLine) (ends : Bool) → cond ends (([], true) ∷ lines) (onto_first_line b lines) ≢ []
     some_line b lines true e = cc
@@ -136,14 +138,15 @@ pub lines_left : (text : List ℕ) (left : List TextLine) → text ≢ [] → li
 lines_left [] left some e = absurd (some refl)
 lines_left (b ∷ bs) left some e = first_and_behind (lines_of (b ∷ bs)) left (lines_of-some b bs) e
 
-lines-more : (b : ℕ) (bs : List ℕ) (lines : List TextLine) (ends : Bool) → (ends ≡ true → b ≡ 10) → flat_map line_text lines ≡ bs → flat_map line_text (cond ends (([], true) ∷ lines) (onto_first_line b lines)) ≡ b ∷ bs
+lines-more : (b : ℕ) (bs : List ℕ) (lines : List TextLine) (ends : Bool) → (ends ≡ true → b ≡ line_end_byte) → flat_map line_text lines ≡ bs → flat_map line_text (cond ends (([], true) ∷ lines) (onto_first_line b lines)) ≡ b ∷ bs
 lines-more b bs lines true is_end e = ap (λ n. n ∷ flat_map line_text lines) (sym (is_end refl)) ∙ ap (λ l. b ∷ l) e
 lines-more b bs [] false is_end e = ap (λ l. b ∷ l) e
 lines-more b bs (line ∷ lines) false is_end e = ap (λ l. b ∷ l) e
 
 text-lines_of : (text : List ℕ) → flat_map line_text (lines_of text) ≡ text
 text-lines_of [] = refl
-text-lines_of (b ∷ bs) = lines-more b bs (lines_of bs) (b == 10) (λ h. (Decides-eqb b 10).0 h) (text-lines_of bs)
+text-lines_of (b ∷ bs) =
+    ap (flat_map line_text) (lines_of-first b bs) ∙ lines-more b bs (lines_of bs) (b == line_end_byte) (λ h. (Decides-eqb b line_end_byte).0 h) (text-lines_of bs)
 
-pub whole_text : (text : List ℕ) → (flat_map line_text (lines_of text) ≡ text) × (join_with_byte 32 (fields_of text) ≡ text)
-whole_text text = (text-lines_of text, join_with_byte-slice_split 32 text)
+pub whole_text : (text : List ℕ) → (flat_map line_text (lines_of text) ≡ text) × (join_with_byte space_byte (fields_of text) ≡ text)
+whole_text text = (text-lines_of text, join_with_byte-slice_split space_byte text)

@@ -1,4 +1,5 @@
--- How the fields of a line are taken, one after another.
+-- How the fields of a line are taken, one after another. Only private functions are held to this: it is the program's own way, and need not be
+-- believed. Which values a line has is `values_on` (Lines.antt), and the contract of `Reader::next_line` holds the whole to that.
 use Rattle.std.specs.Prelude.{ℕ, List, Option, None}
 use Rattle.sheet.specs.Letters.{letter_of}
 use Rattle.sheet.specs.Lines.{row}

@@ -1,12 +1,9 @@
 -- The names line of a sheet, which says what the sheet is of.
-use Rattle.std.specs.Prelude.{ℕ, cond, List, [], ◌∷◌, ◌++◌, length, codes, Some, None, Option, nat_le, take, drop}
+use Rattle.std.specs.Prelude.{ℕ, cond, List, ◌++◌, length, codes, Some, None, Option, nat_le, take, drop}
 use Rattle.std.specs.Str.{bytes_eq}
+use Rattle.sheet.specs.Bytes.{line_end}
 use Rattle.sheet.specs.declared.headings.SheetOf.{SheetOf}
 use Rattle.sheet.specs.declared.headings.SheetOf.TheVariants.{Maps, Traces}
-
--- each line ends with this byte
-abbrev pub line_end : List ℕ
-line_end = 10 ∷ []
 
 -- the names line, its end with it
 abbrev pub names_of : SheetOf → List ℕ

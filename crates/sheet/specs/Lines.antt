@@ -1,6 +1,6 @@
--- The lines of a text, and the values that stand on a line.
-use Rattle.std.specs.Prelude.{ℕ, ℤ, cond, Bool, true, false, List, [], ◌∷◌, ◌++◌, Option, Some, None, ◌==◌}
-use Rattle.std.specs.List.{slice_split}
+-- The lines of a text, and the values that stand on a line. Lines and fields come of one cutting, `cut_at`.
+use Rattle.std.specs.Prelude.{ℕ, ℤ, cond, Bool, true, false, List, [], ◌∷◌, ◌++◌, Option, Some, None}
+use Rattle.sheet.specs.Bytes.{cut_at, line_end, line_end_byte, space_byte}
 use Rattle.sheet.specs.Letters.{letter_of}
 use Rattle.sheet.specs.Values.{value_of}
 use Rattle.sheet.specs.declared.letters.Letter.{Letter}
@@ -10,22 +10,28 @@ use Rattle.sheet.specs.declared.lines.Values.{Values}
 abbrev pub TextLine : Type 0
 TextLine = List ℕ × Bool
 
-abbrev pub onto_first_line : ℕ → List TextLine → List TextLine
-onto_first_line b [] = (b ∷ [], false) ∷ []
-onto_first_line b (line ∷ lines) = (b ∷ line.0, line.1) ∷ lines
+-- what stands behind the last line end is a line without its end, or nothing
+abbrev pub unended : List ℕ → List TextLine
+unended [] = []
+unended (b ∷ bs) = (b ∷ bs, false) ∷ []
+
+-- the parts between line ends as lines
+abbrev pub as_lines : List (List ℕ) → List TextLine
+as_lines [] = []
+as_lines (last ∷ []) = unended last
+as_lines (line ∷ next ∷ more) = (line, true) ∷ as_lines (next ∷ more)
 
 -- the lines of a text, of which only the last can be without its end
 abbrev pub lines_of : List ℕ → List TextLine
-lines_of [] = []
-lines_of (b ∷ bs) = cond (b == 10) (([], true) ∷ lines_of bs) (onto_first_line b (lines_of bs))
+lines_of text = as_lines (cut_at line_end_byte text)
 
 -- a line with its end, if that stands
 abbrev pub line_text : TextLine → List ℕ
-line_text line = line.0 ++ cond line.1 (10 ∷ []) []
+line_text line = line.0 ++ cond line.1 line_end []
 
--- the parts of a line, cut at each space
+-- the parts of a line between its spaces
 abbrev pub fields_of : List ℕ → List (List ℕ)
-fields_of line = slice_split (λ b. b == 32) line
+fields_of line = cut_at space_byte line
 
 -- the values of a line, if each field is good at its place
 abbrev pub row : Option ℤ → Option Letter → Option ℤ → Option ℤ → Option ℤ → Option ℤ → Option ℤ → Option ℤ → Option Values

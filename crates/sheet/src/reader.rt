@@ -1,4 +1,5 @@
 ghost use Rattle.std.specs.Prelude.{◌≡◌, ◌↔◌, ◌+◌, ◌^◌, ◌<◌, List, ℕ, [], ◌∷◌, IfNone, IfSome, IsNone, length};
+ghost use Rattle.sheet.specs.Bytes.{space_byte};
 ghost use Rattle.sheet.specs.Fields.{IsField, joined, lines_ended, pieces_of};
 ghost use Rattle.std.specs.List.{flat_map, join_with_byte};
 ghost use Rattle.sheet.specs.Lines.{fields_of, first_line, line_text, lines_of, values_on};
@@ -72,7 +73,7 @@ impl<'a> Reader<'a> {
         ensures number { IfSome result (λ line. line.number ≡ self.old.line) }
         ensures counted { IfSome result (λ line. self.new.line ≡ self.old.line + 1) }
         // No byte is lost when a text is taken as lines, or a line as fields.
-        ensures whole { (text : List ℕ) → (flat_map line_text (lines_of text) ≡ text) × (join_with_byte 32 (fields_of text) ≡ text) }
+        ensures whole { (text : List ℕ) → (flat_map line_text (lines_of text) ≡ text) × (join_with_byte space_byte (fields_of text) ≡ text) }
     {
         if self.rest.is_empty() {
             return None;
