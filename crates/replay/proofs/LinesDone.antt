@@ -1,5 +1,5 @@
 -- What a line does, by what has been done for it.
-use Rattle.std.proofs.Common.{◌≡◌, ℕ, false, [], ◌∷◌, Some, None, Option, refl, sym, ◌∙◌}
+use Rattle.std.proofs.Common.{◌≡◌, ℕ, false, [], ◌∷◌, Some, None, Option, MatchOption, refl, sym, subst, ◌∙◌}
 use Rattle.refusals.specs.Numbers.{number_of}
 use Rattle.refusals.specs.declared.Refusal.{Refusal}
 use Rattle.kinds.specs.declared.kind.Kind.{Ghosts as KindMeaning}
@@ -22,7 +22,7 @@ use Rattle.replay.specs.declared.requests.Request.TheVariants.{Open, Begin, Turn
 use Rattle.replay.specs.Numbers.{SheetNumbers}
 use Rattle.replay.specs.Openings.{OpeningRefused, OpenedOnSheet}
 use Rattle.replay.specs.Stages.{Stage, malformed, no_store, not_opened, opens, begins, turns, coded, told, asked_on, is_opening, setting_at, goes_on_to}
-use Rattle.replay.specs.Standing.{CarriesOutLine}
+use Rattle.replay.specs.Standing.{CarriesOutLine, IsHeld}
 use Rattle.replay.specs.Turns.{TurnsUpTo, all_entries}
 
 module _ {K D W : Type 0} (kind : KindMeaning K D W) (sheet : SheetNumbers D W) (n : ℕ) (values : Option Values) where
@@ -37,11 +37,12 @@ module _ {K D W : Type 0} (kind : KindMeaning K D W) (sheet : SheetNumbers D W) 
   without_store None reply e a i r (Some b) h = absurd h
   without_store None reply e a i r None h = (None, h, no_store a i refl refl r)
 
-  pub keeps_store : (held : Option S) (reply : Reply) {o : Opening} {e : Refusal} → asked_on sheet values ≡ Some (Open o) → OpeningRefused o (Refused e) → reply ≡ coded n (number_of e) → CarriesOutLine {kind = kind} sheet n values held held reply
-  keeps_store held reply a f r before h = (before, h, not_opened a f refl r)
+  pub keeps_store : (held held' : Option S) (reply : Reply) {o : Opening} {e : Refusal} → asked_on sheet values ≡ Some (Open o) → OpeningRefused o (Refused e) → held' ≡ held → reply ≡ coded n (number_of e) → CarriesOutLine {kind = kind} sheet n values held held' reply
+  keeps_store held held' reply a f kept r before h = (before, subst (IsHeld before) (sym kept) h, not_opened a f refl r)
 
-  pub opens_store : (held : Option S) (reply : Reply) {o : Opening} (s : S) → asked_on sheet values ≡ Some (Open o) → OpenedOnSheet o s → reply ≡ coded n 0 → CarriesOutLine {kind = kind} sheet n values held (Some s) reply
-  opens_store held reply {o} s a f r before h =
+  pub opens_store : (held held' : Option S) (reply : Reply) {o : Opening} → asked_on sheet values ≡ Some (Open o) → MatchOption held' ⊥ (λ s. OpenedOnSheet o s) → reply ≡ coded n 0 → CarriesOutLine {kind = kind} sheet n values held held' reply
+  opens_store held None reply a f r before h = absurd f
+  opens_store held (Some s) reply {o} a f r before h =
       let b : Stage D W = record { opening = o; first = system_in s; log = []; now = system_in s } in
       (Some b, record { now = refl; parties = f.new.store.all_parties; nodes = f.new.store.all_nodes }, opens a (record { session = s; opened = f; is = refl }) refl r)
 

@@ -1,5 +1,6 @@
 // The store that a sheet has opened, and what one line does to it.
-ghost use Rattle.std.specs.Prelude.{◌≡◌, ◌≤◌, Option, IfOk, Some};
+ghost use Rattle.std.specs.Prelude.{◌≡◌, ◌≤◌, Option, IfErr, IfOk, MatchOption, OnErr, OnOk, Some};
+ghost use Rattle.replay.specs.Openings.{OpenedOnSheet, OpeningRefused};
 ghost use Rattle.replay.specs.Stages.{asked_on};
 ghost use Rattle.replay.specs.Standing.{CarriesOutLine};
 ghost use Rattle.replay.specs.declared.requests.Request.TheVariants.{Open, Begin, Turn};
@@ -10,6 +11,7 @@ use crate::opening::open;
 use crate::replies::{MALFORMED, NO_STORE, code_alone, reply_to};
 use crate::requests::{Opening, Request, asked_for};
 use crate::turning::{entries_of_all, turn_up_to};
+use kinds::kind::Kind;
 use model::calls::{Asked, Event};
 use orders::limits::Party;
 use orders::stride::Stride;
@@ -40,7 +42,7 @@ pub(crate) fn answer<K: OnSheet>(
     }
 }
 
-// Opens a store in place of the one that stands; where it is refused, that one is kept.
+// Opens a store in place of the one that stands.
 fn open_another<K: OnSheet>(
     held: &mut Option<Session<K, Stride, Stride>>,
     heap: Global,
@@ -49,14 +51,26 @@ fn open_another<K: OnSheet>(
 ) -> Result<Reply, AllocError>
     ensures { IfOk result (λ reply. (values : Option Values) → asked_on K.OnSheet.numbers values ≡ Some (Open opening) → CarriesOutLine K.OnSheet.numbers number values held.old held.new reply) }
 {
-    match open::<K>(heap, opening) {
-        Ok(session) => {
-            *held = Some(session);
-            Ok(code_alone(number, 0))
-        }
+    match open_in_place(held, heap, opening) {
+        Ok(()) => Ok(code_alone(number, 0)),
         Err(OpenError::Refused(refusal)) => Ok(code_alone(number, refusal.number())),
         Err(OpenError::NoMemory(e)) => Err(e),
     }
+}
+
+// The new store takes the place of the old one only when it stands.
+fn open_in_place<K: Kind>(
+    held: &mut Option<Session<K, Stride, Stride>>,
+    heap: Global,
+    opening: Opening,
+) -> Result<(), OpenError>
+    ensures opened { OnOk result (MatchOption held.new ⊥ (λ s. OpenedOnSheet opening s)) }
+    ensures refused { IfErr result (λ e. OpeningRefused opening e) }
+    ensures kept { OnErr result (held.new ≡ held.old) }
+{
+    let session = open::<K>(heap, opening)?;
+    *held = Some(session);
+    Ok(())
 }
 
 fn begin<K: OnSheet>(

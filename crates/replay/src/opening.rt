@@ -10,6 +10,7 @@ use store::errors::OpenError;
 use store::limits::within_limits;
 
 // Opens a store whose orders are strides: its numbers of nodes and parties are looked at first, then the strides.
+#[tactic(auto, using(crate::proofs::Openings::opened_on_sheet))]
 pub(crate) fn open<K: Kind>(
     heap: Global,
     opening: Opening,

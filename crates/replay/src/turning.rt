@@ -33,6 +33,18 @@ fn walks<K: Kind>(session: &Session<K, Stride, Stride>, party: Party) -> bool
     }
 }
 
+// What turns it on: a walk's Turn while the party walks, and else a plain Turn.
+fn next_turn<K: Kind>(session: &Session<K, Stride, Stride>, party: Party) -> Event<K::Data>
+    ensures { result ≡ next_turn (setting_of session.now) party (system_in session.now) }
+{
+    let lengths = entries_of_all(session);
+    if walks(session, party) {
+        Event::WalkTurns(party, lengths)
+    } else {
+        Event::Turns(party, lengths)
+    }
+}
+
 // The next turn of what the party is running.
 fn turn_once<K: Kind>(
     session: &mut Session<K, Stride, Stride>,
@@ -41,12 +53,7 @@ fn turn_once<K: Kind>(
     ensures moves { Moves (setting_of session.old) (system_in session.old) (next_turn (setting_of session.old) party (system_in session.old)) result (system_in session.new) }
     ensures sizes { SameSizes session.old.store.cells session.new.store.cells }
 {
-    let lengths = entries_of_all(session);
-    let turn = if walks(session, party) {
-        Event::WalkTurns(party, lengths)
-    } else {
-        Event::Turns(party, lengths)
-    };
+    let turn = next_turn(session, party);
     session.carry_out(turn)
 }
 
@@ -60,6 +67,7 @@ fn runs_on<D, W>(outcome: &Outcome<D, W>) -> bool
 }
 
 // Up to so many turns of what the party is running, until one ends it or is refused. Answers what the last of them tells.
+#[tactic(auto, using(crate::proofs::TurnsOn::turned_first))]
 pub(crate) fn turn_up_to<K: Kind>(
     session: &mut Session<K, Stride, Stride>,
     party: Party,
