@@ -29,8 +29,8 @@ marked_in_front M marks (suc n) h = elim (cases_lt n (length marks)) [
   | inr past ↦ grind (arith, nat_tests, marked_in_front M marks n (omega arith), get_or_past marks n false past, take_all n marks past, take_all (suc n) marks (omega arith))
 ]
 
-pub marked_counted : (M : ℕ) (marks : List Bool) → count_by (λ b. b) (take (min M (length marks)) marks) ≡ marked M (marks_of M marks)
-marked_counted M marks = rw (take_min M marks) (marked_in_front M marks M (omega arith))
+pub marked_counted : (M : ℕ) (marks : List Bool) (r : ℕ) → r ≡ count_by (λ b. b) (take (min M (length marks)) marks) → r ≡ marked M (marks_of M marks)
+marked_counted M marks r counted = counted ∙ rw (take_min M marks) (marked_in_front M marks M (omega arith))
 
 mark_set : (M : ℕ) (marks : List Bool) (n : ℕ) → 1 ≤ n → n ≤ M → M ≤ length marks → marks_of M (set marks (n - 1) true) ≡ upd (marks_of M marks) n true
 mark_set M marks n low high long = fun_ext (λ m. ap (λ f. leb m M && f m) (nth_set false marks n true low (omega arith)) ∙ go m)

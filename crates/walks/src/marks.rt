@@ -21,13 +21,19 @@ pub fn clear(marks: &mut [bool], nodes: Node)
 pub fn first_unmarked(marks: &[bool], nodes: Node, kids: Kids) -> Option<Kid>
     ensures { result ≡ first_unmarked (marks_alone nodes marks.now) kids }
 {
-    [Kid::First, Kid::Second, Kid::Third]
-        .iter()
-        .copied()
-        .find(|k| is_unmarked(marks, nodes, kids.at(*k)))
+    if is_unmarked(marks, nodes, kids.first) {
+        Some(Kid::First)
+    } else if is_unmarked(marks, nodes, kids.second) {
+        Some(Kid::Second)
+    } else if is_unmarked(marks, nodes, kids.third) {
+        Some(Kid::Third)
+    } else {
+        None
+    }
 }
 
 // How many different nodes the walk has marked.
+#[tactic(auto, using(crate::proofs::Noting::marked_counted))]
 pub fn count_marked(marks: &[bool], nodes: Node) -> TermSize
     ensures { result ≡ marked nodes (marks_of nodes marks.now) }
 {
