@@ -15,7 +15,7 @@ use std::alloc::Global;
 use store::errors::OpenError;
 use store::store::Store;
 
-const BLANK: MapData = MapData { code: 0, number: 0 };
+pub(crate) const BLANK: MapData = MapData { code: 0, number: 0 };
 
 pub(crate) fn report(rt: &HostRuntime) -> anyhow::Result<()> {
     let heap = rt.alloc();
@@ -55,7 +55,7 @@ fn opened(heap: Global, nodes: u32) -> anyhow::Result<Result<(), Refusal>> {
     }
 }
 
-fn make(slot: Slot) -> Call<MapData> {
+pub(crate) fn make(slot: Slot) -> Call<MapData> {
     Call::Make(Plan {
         slot,
         kids: PerKid::all(0),
