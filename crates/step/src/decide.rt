@@ -1,8 +1,8 @@
 ghost use Rattle.std.specs.Prelude.{◌≡◌, ◌+◌, ◌-◌, ◌<◌, true, if◌then◌else◌, Some, None};
 ghost use Rattle.model.specs.Entries.{nth};
 ghost use Rattle.model.specs.State.{last_of, trail_of};
-ghost use Rattle.model.specs.Steps.{decide as decides, decide_place};
-ghost use Rattle.step.specs.Counting.{movable, movable_at};
+ghost use Rattle.model.specs.Steps.{decide as decides};
+ghost use Rattle.step.specs.Counting.{movable};
 
 use crate::decisions::{after_kid, end, end_sweep, go, go_down, go_to, settle, stop, stuck};
 use crate::kid::wanted;
@@ -18,7 +18,8 @@ use model::words::{Change, Count, Decision, NodeRead, Word};
 use orders::limits::{Number, Party};
 use refusals::Refusal;
 
-// What the step decides: one match over the call, its place and the word that was read.
+// What the step decides: one match over the call, its place and the word that was read; guards set a Sweep apart from a
+// Make.
 fn ruled<D: Copy, W: Copy>(
     own: &PartyRecord<D>,
     word: &Word<D>,
@@ -29,6 +30,7 @@ fn ruled<D: Copy, W: Copy>(
     ensures { result ≡ decides own.now.running word.now party pick (nth 0 own.now.slots) (last_of (trail_of own.now.trail)) }
 {
     let last = own.trail.last();
+    let sweeps = matches!(own.running, Running::Works(Job::Sweeps, _));
     match (own.running, *word) {
         (Running::Reads(reading), _) => read_on(
             reading,
@@ -64,7 +66,108 @@ fn ruled<D: Copy, W: Copy>(
         (Running::TakesOut(i, v), Word::InboxWord(_)) => {
             end(Word::InboxWord(0), Change::Fills(i, v), Answer::AtNode(v))
         }
-        (Running::Works(job, place), _) => at_place(&job, place, word, own, party, pick),
+        (Running::Works(_, Place::OpenTray), Word::TrayWord(_)) => {
+            go_to(Word::TrayWord(Tray::Open), own, Place::ReadTray)
+        }
+        (Running::Works(_, Place::ReadTray), Word::TrayWord(Tray::Holding(v))) => {
+            go_to(Word::NoWord, own, Place::CloseTray(v))
+        }
+        (Running::Works(_, Place::ReadTray), Word::TrayWord(_)) => {
+            go_to(Word::NoWord, own, Place::LookForNode)
+        }
+        (Running::Works(_, Place::LookForNode), Word::CountWord(0)) => {
+            go_to(Word::NoWord, own, Place::LockNode(pick))
+        }
+        (Running::Works(_, Place::LockNode(n)), Word::LockWord(0)) => {
+            go_to(Word::LockWord(party), own, Place::Recheck(n))
+        }
+        (Running::Works(_, Place::LookForNode), _)
+        | (Running::Works(_, Place::LockNode(_)), Word::LockWord(_))
+            if sweeps => { end_sweep(Word::NoWord, 0, 0) }
+        (Running::Works(_, Place::LookForNode), _)
+        | (Running::Works(_, Place::LockNode(_)), Word::LockWord(_)) => {
+            go_to(Word::NoWord, own, Place::ReadTray)
+        }
+        (Running::Works(_, Place::Recheck(n)), Word::CountWord(0)) => {
+            go_to(Word::NoWord, own, Place::ReadKid(n, Kid::First))
+        }
+        (Running::Works(_, Place::Recheck(n)), Word::CountWord(_)) => {
+            go_to(Word::NoWord, own, Place::UnlockAndGoBack(n))
+        }
+        (Running::Works(_, Place::UnlockAndGoBack(_)), Word::LockWord(_)) if sweeps => {
+            end_sweep(Word::LockWord(0), 0, 0)
+        }
+        (Running::Works(_, Place::UnlockAndGoBack(_)), Word::LockWord(_)) => {
+            go_to(Word::LockWord(0), own, Place::ReadTray)
+        }
+        (Running::Works(_, Place::ReadKid(n, k)), Word::KidWord(0)) => {
+            go_to(Word::NoWord, own, after_kid(n, k))
+        }
+        (Running::Works(_, Place::ReadKid(n, k)), Word::KidWord(w)) => {
+            go_to(Word::NoWord, own, Place::ClearKid(n, k, w))
+        }
+        (Running::Works(_, Place::ClearKid(n, k, w)), Word::KidWord(_)) => {
+            go_to(Word::KidWord(0), own, Place::UncountKid(n, k, w))
+        }
+        (Running::Works(_, Place::UncountKid(n, k, _)), Word::CountWord(c)) => {
+            go_to(Word::CountWord(c - 1), own, after_kid(n, k))
+        }
+        (Running::Works(_, Place::Claim(n)), Word::CountWord(_)) => {
+            go_to(Word::CountWord(1), own, Place::Unlock(n))
+        }
+        (Running::Works(_, Place::Unlock(n)), Word::LockWord(_)) => {
+            go_to(Word::LockWord(0), own, Place::Offer(n))
+        }
+        (Running::Works(_, Place::KeepForOneself(n)), Word::TrayWord(Tray::Open)) => {
+            go_to(Word::TrayWord(Tray::Holding(n)), own, Place::CloseTray(n))
+        }
+        (Running::Works(_, Place::KeepForOneself(n)), Word::TrayWord(_)) => go_to(
+            Word::NoWord,
+            own,
+            Place::GiveBack(n),
+        ),
+        (Running::Works(_, Place::GiveBack(n)), Word::CountWord(_)) if sweeps => end_sweep(
+            Word::CountWord(0),
+            n,
+            0,
+        ),
+        (Running::Works(_, Place::GiveBack(_)), Word::CountWord(_)) => {
+            go_to(Word::CountWord(0), own, Place::ReadTray)
+        }
+        (Running::Works(_, Place::CloseTray(v)), Word::TrayWord(_)) => {
+            go_to(Word::TrayWord(Tray::Closed), own, Place::WriteData(v))
+        }
+        (Running::Works(job, Place::WriteData(v)), Word::DataWord(_)) => data_given(&job, v),
+        (Running::Works(job, Place::CountKid(v, k)), Word::CountWord(c)) => go_to(
+            Word::CountWord(c + 1),
+            own,
+            Place::LinkKid(v, k, wanted(&job, k, own)),
+        ),
+        (Running::Works(job, Place::LinkKid(v, k, w)), Word::KidWord(_)) => {
+            kid_linked(&job, v, k, w)
+        }
+        // Offer stands last, since the proof goes once more through the arms below each of its guards.
+        (Running::Works(_, Place::Offer(n)), Word::TrayWord(Tray::Open))
+            if pick != party && sweeps => { end_sweep(Word::TrayWord(Tray::Holding(n)), n, pick) }
+        (Running::Works(_, Place::Offer(n)), Word::TrayWord(Tray::Open)) if pick != party => {
+            go_to(Word::TrayWord(Tray::Holding(n)), own, Place::ReadTray)
+        }
+        (Running::Works(_, Place::Offer(n)), _) if pick != party && sweeps => {
+            go_to(Word::NoWord, own, Place::GiveBack(n))
+        }
+        (Running::Works(_, Place::Offer(n)), _) if pick != party => {
+            go_to(Word::NoWord, own, Place::KeepForOneself(n))
+        }
+        (Running::Works(_, Place::Offer(n)), Word::CountWord(_)) if sweeps => {
+            end_sweep(Word::CountWord(0), n, 0)
+        }
+        (Running::Works(_, Place::Offer(n)), Word::TrayWord(Tray::Open)) if !sweeps => {
+            go_to(Word::TrayWord(Tray::Holding(n)), own, Place::CloseTray(n))
+        }
+        (Running::Works(_, Place::Offer(n)), Word::TrayWord(_)) if !sweeps => {
+            go_to(Word::NoWord, own, Place::GiveBack(n))
+        }
+        (Running::Works(_, _), _) => stuck(),
         (Running::WalkReads(situation, reading), _) => read_on(
             reading,
             word,
@@ -79,127 +182,6 @@ fn ruled<D: Copy, W: Copy>(
             go(Word::NoWord, Running::WalkReads(t, Reading::ReadNothing))
         }
         (Running::WalkGoesDown(t, _), Word::KidWord(c)) => go_down(t, c),
-        _ => stuck(),
-    }
-}
-
-// What a Make or a Sweep decides.
-fn at_place<D: Copy, W: Copy>(
-    job: &Job<D>,
-    place: Place,
-    word: &Word<D>,
-    own: &PartyRecord<D>,
-    party: Party,
-    pick: Number,
-) -> Decision<D, W>
-    requires { movable_at place word.now ≡ true }
-    ensures { result ≡ decide_place place job.now word.now party pick (nth 0 own.now.slots) }
-{
-    let sweeps = matches!(job, Job::Sweeps);
-    match (place, *word) {
-        (Place::OpenTray, Word::TrayWord(_)) => go_to(
-            Word::TrayWord(Tray::Open),
-            job,
-            Place::ReadTray,
-        ),
-        (Place::ReadTray, Word::TrayWord(Tray::Holding(v))) => go_to(
-            Word::NoWord,
-            job,
-            Place::CloseTray(v),
-        ),
-        (Place::ReadTray, Word::TrayWord(_)) => go_to(Word::NoWord, job, Place::LookForNode),
-        (Place::LookForNode, Word::CountWord(0)) => go_to(Word::NoWord, job, Place::LockNode(pick)),
-        (Place::LockNode(n), Word::LockWord(0)) => go_to(
-            Word::LockWord(party),
-            job,
-            Place::Recheck(n),
-        ),
-        (Place::LookForNode, _) | (Place::LockNode(_), Word::LockWord(_)) if sweeps => {
-            end_sweep(Word::NoWord, 0, 0)
-        }
-        (Place::LookForNode, _) | (Place::LockNode(_), Word::LockWord(_)) => {
-            go_to(Word::NoWord, job, Place::ReadTray)
-        }
-        (Place::Recheck(n), Word::CountWord(0)) => go_to(
-            Word::NoWord,
-            job,
-            Place::ReadKid(n, Kid::First),
-        ),
-        (Place::Recheck(n), Word::CountWord(_)) => go_to(
-            Word::NoWord,
-            job,
-            Place::UnlockAndGoBack(n),
-        ),
-        (Place::UnlockAndGoBack(_), Word::LockWord(_)) if sweeps => end_sweep(
-            Word::LockWord(0),
-            0,
-            0,
-        ),
-        (Place::UnlockAndGoBack(_), Word::LockWord(_)) => go_to(
-            Word::LockWord(0),
-            job,
-            Place::ReadTray,
-        ),
-        (Place::ReadKid(n, k), Word::KidWord(0)) => go_to(Word::NoWord, job, after_kid(n, k)),
-        (Place::ReadKid(n, k), Word::KidWord(w)) => go_to(
-            Word::NoWord,
-            job,
-            Place::ClearKid(n, k, w),
-        ),
-        (Place::ClearKid(n, k, w), Word::KidWord(_)) => go_to(
-            Word::KidWord(0),
-            job,
-            Place::UncountKid(n, k, w),
-        ),
-        (Place::UncountKid(n, k, _), Word::CountWord(c)) => go_to(
-            Word::CountWord(c - 1),
-            job,
-            after_kid(n, k),
-        ),
-        (Place::Claim(n), Word::CountWord(_)) => go_to(Word::CountWord(1), job, Place::Unlock(n)),
-        (Place::Unlock(n), Word::LockWord(_)) => go_to(Word::LockWord(0), job, Place::Offer(n)),
-        (Place::KeepForOneself(n), Word::TrayWord(Tray::Open)) => go_to(
-            Word::TrayWord(Tray::Holding(n)),
-            job,
-            Place::CloseTray(n),
-        ),
-        (Place::KeepForOneself(n), Word::TrayWord(_)) => go_to(
-            Word::NoWord,
-            job,
-            Place::GiveBack(n),
-        ),
-        (Place::GiveBack(n), Word::CountWord(_)) if sweeps => end_sweep(Word::CountWord(0), n, 0),
-        (Place::GiveBack(_), Word::CountWord(_)) => go_to(Word::CountWord(0), job, Place::ReadTray),
-        (Place::CloseTray(v), Word::TrayWord(_)) => go_to(
-            Word::TrayWord(Tray::Closed),
-            job,
-            Place::WriteData(v),
-        ),
-        (Place::WriteData(v), Word::DataWord(_)) => data_given(job, v),
-        (Place::CountKid(v, k), Word::CountWord(c)) => go_to(
-            Word::CountWord(c + 1),
-            job,
-            Place::LinkKid(v, k, wanted(job, k, own)),
-        ),
-        (Place::LinkKid(v, k, w), Word::KidWord(_)) => kid_linked(job, v, k, w),
-        (Place::Offer(n), Word::CountWord(_)) if pick == party && sweeps => {
-            end_sweep(Word::CountWord(0), n, 0)
-        }
-        (Place::Offer(n), Word::TrayWord(Tray::Open)) if pick == party && !sweeps => {
-            go_to(Word::TrayWord(Tray::Holding(n)), job, Place::CloseTray(n))
-        }
-        (Place::Offer(n), Word::TrayWord(_)) if pick == party && !sweeps => {
-            go_to(Word::NoWord, job, Place::GiveBack(n))
-        }
-        (Place::Offer(_), _) if pick == party => stuck(),
-        (Place::Offer(n), Word::TrayWord(Tray::Open)) if sweeps => {
-            end_sweep(Word::TrayWord(Tray::Holding(n)), n, pick)
-        }
-        (Place::Offer(n), _) if sweeps => go_to(Word::NoWord, job, Place::GiveBack(n)),
-        (Place::Offer(n), Word::TrayWord(Tray::Open)) => {
-            go_to(Word::TrayWord(Tray::Holding(n)), job, Place::ReadTray)
-        }
-        (Place::Offer(n), _) => go_to(Word::NoWord, job, Place::KeepForOneself(n)),
         _ => stuck(),
     }
 }

@@ -3,18 +3,20 @@ ghost use Rattle.model.specs.Steps.{after_kid, ended_by, ending, going, stuck};
 ghost use Rattle.model.specs.declared.outcomes.Answer.TheVariants.{Swept};
 ghost use Rattle.model.specs.declared.outcomes.Progress.TheVariants.{StillRunning};
 ghost use Rattle.model.specs.declared.running.Reading.TheVariants.{ReadNothing};
-ghost use Rattle.model.specs.declared.running.Running.TheVariants.{Idle, WalkReads, Works};
+ghost use Rattle.model.specs.declared.running.Running.TheVariants.{Idle, WalkReads};
 ghost use Rattle.model.specs.declared.words.Change.TheVariants.{Lengthens, Stays};
 ghost use Rattle.model.specs.declared.words.Told.TheVariants.{Settles, Tells};
 ghost use Rattle.model.specs.declared.words.Word.TheVariants.{NoWord};
+ghost use Rattle.step.specs.Moving.{moved};
 
 use crate::kid::next_kid;
 use kinds::gearbox::Situation;
 use kinds::kids::Kid;
 use model::nodes::Node;
 use model::outcomes::{Answer, Outcome, Progress};
+use model::party::PartyRecord;
 use model::place::Place;
-use model::running::{Job, Reading, Running};
+use model::running::{Reading, Running};
 use model::words::{Change, Decision, NodeRead, Told, Word};
 use orders::limits::Party;
 
@@ -48,11 +50,18 @@ pub(crate) fn go<D: Copy, W: Copy>(word: Word<D>, next: Running<D>) -> Decision<
     }
 }
 
-// The job goes on at another place.
-pub(crate) fn go_to<D: Copy, W: Copy>(word: Word<D>, job: &Job<D>, place: Place) -> Decision<D, W>
-    ensures { result ≡ going word (Works job.now place) }
+// The running job goes on at another place.
+pub(crate) fn go_to<D: Copy, W: Copy>(
+    word: Word<D>,
+    own: &PartyRecord<D>,
+    place: Place,
+) -> Decision<D, W>
+    ensures { result ≡ going word (moved own.now.running place) }
 {
-    go(word, Running::Works(*job, place))
+    match own.running {
+        Running::Works(job, _) => go(word, Running::Works(job, place)),
+        running => go(word, running),
+    }
 }
 
 // A walk goes down to the kid.

@@ -2,13 +2,13 @@ ghost use Rattle.std.specs.Prelude.{◌≡◌};
 ghost use Rattle.model.specs.Steps.{data_given, kid_linked};
 ghost use Rattle.step.specs.Linking.{link_from};
 
-use crate::decisions::{end, go_to, stuck};
+use crate::decisions::{end, go, stuck};
 use crate::kid::next_kid;
 use kinds::kids::Kid;
 use model::nodes::Node;
 use model::outcomes::Answer;
 use model::place::Place;
-use model::running::{Job, Plan};
+use model::running::{Job, Plan, Running};
 use model::words::{Change, Decision, Word};
 
 // The Make gives its data to the node, and goes on to its first kid.
@@ -43,6 +43,9 @@ fn link_from<D: Copy, W: Copy>(
     match from {
         None => end(word, Change::Fills(plan.slot, v), Answer::AtNode(v)),
         Some(k) if plan.kids.at(k) == 0 => link_from(plan, v, next_kid(k), word),
-        Some(k) => go_to(word, &Job::Makes(*plan), Place::CountKid(v, k)),
+        Some(k) => go(
+            word,
+            Running::Works(Job::Makes(*plan), Place::CountKid(v, k)),
+        ),
     }
 }
