@@ -1,7 +1,8 @@
 -- What the meaning of a stride or of a card leaves open of a pick: nothing.
-use Rattle.std.specs.Prelude.{◌≡◌, ℕ, ◌+◌, ◌<◌, ◌≢◌}
+use Rattle.std.specs.Prelude.{◌≡◌, ℕ, ◌+◌, ◌<◌, ◌≢◌, List, length}
 use Rattle.orders.specs.Limits.{IsParty}
-use Rattle.orders.specs.Meaning.{IsNumber, Picked}
+use Rattle.orders.specs.Meaning.{IsNumber, Picked, PickedInTurn}
+use Rattle.orders.specs.Rounds.{place_of, entry_at, answers_from}
 use Rattle.orders.specs.declared.order.Order.{Ghosts as OrderMeaning}
 use Rattle.orders.specs.contracts.stride.StrideOrder.TheImpl as stride
 use Rattle.orders.specs.contracts.card.CardOrder.TheImpl as card
@@ -27,3 +28,14 @@ StridesLeaveOnePick = LeavesOnePick (stride.ghosts)
 
 abbrev pub CardsLeaveOnePick : Type 0
 CardsLeaveOnePick = LeavesOnePick (card.ghosts)
+
+-- whatever picks in a row keep the meaning, they answer what stands at the party's next places
+abbrev pub AnswersAlong : {O : Type 0} → OrderMeaning O → (O → ℕ → ℕ) → (stride : O → ℕ) → (place : O → ℕ → ℕ) → Type 0
+AnswersAlong {O} o shown stride place = (old new : O) (p : ℕ) (answers : List ℕ) → IsParty p → PickedInTurn o.numbers o.horizon o.due p old answers new
+    → answers ≡ answers_from (shown old) (o.numbers old) (stride old) (place old p) (length answers)
+
+abbrev pub StridesAnswerAlong : Type 0
+StridesAnswerAlong = AnswersAlong (stride.ghosts) (λ s q. q) (λ s. s.stride) (λ s p. place_of s.round.places p)
+
+abbrev pub CardsAnswerAlong : Type 0
+CardsAnswerAlong = AnswersAlong (card.ghosts) (λ c. entry_at c.entries.items) (λ c. 1) (λ c p. place_of c.round.places p)

@@ -1,6 +1,6 @@
 -- A round of m places, numbered from 1, on which each party has a place of its own and moves on by a
 -- fixed stride, after the last place the first.
-use Rattle.std.specs.Prelude.{ℕ, zero, suc, ◌+◌, ◌-◌, ◌*◌, ◌%◌, cond, List, ◌==◌, slice_index}
+use Rattle.std.specs.Prelude.{ℕ, zero, suc, ◌+◌, ◌-◌, ◌*◌, ◌%◌, cond, List, [], ◌∷◌, ◌==◌, slice_index}
 
 -- where a party starts
 abbrev pub start_place : ℕ → ℕ → ℕ
@@ -26,6 +26,11 @@ before answer n (suc few) = cond (answer zero == n) zero (suc (before (λ k. ans
 -- the due of n for a party at the place q, where a pick shows what stands at the next place
 abbrev pub round_due : (ℕ → ℕ) → ℕ → ℕ → ℕ → ℕ → ℕ
 round_due shown m stride q n = before (λ k. shown (place_after m stride q k)) n m
+
+-- so many answers of a party at the place q, where a pick shows what stands at the next place
+abbrev pub answers_from : (ℕ → ℕ) → ℕ → ℕ → ℕ → ℕ → List ℕ
+answers_from shown m stride q zero = []
+answers_from shown m stride q (suc k) = shown (next_place m stride q) ∷ answers_from shown m stride (next_place m stride q) k
 
 -- what stands at a position of a card, counted from 1
 abbrev pub entry_at : List ℕ → ℕ → ℕ

@@ -48,6 +48,8 @@ impl Order for Card {
 
     ghost at_least_one = { λ o. o.round.size_fits.low };
 
+    ghost at_most_largest = { λ o. o.round.size_fits.high };
+
     ghost due_below_span = { λ o p n is number.
         card_dues_below o.round.size o.entries.items o.fits
         o.round.size_fits.low (place_of o.round.places p) n (o.round.placed p is) number };

@@ -1,5 +1,5 @@
 ghost use Rattle.std.specs.Prelude.{◌≡◌, ℕ, ◌<◌, ◌≤◌};
-ghost use Rattle.orders.specs.Limits.{IsParty};
+ghost use Rattle.orders.specs.Limits.{IsParty, largest_size};
 ghost use Rattle.orders.specs.Meaning.{IsNumber, Picked};
 
 use crate::limits::{Number, Party};
@@ -27,6 +27,8 @@ pub trait Order {
         ensures picked { Picked numbers horizon due self.old self.new party result };
 
     ghost at_least_one: { (o : Self) → 1 ≤ numbers o };
+
+    ghost at_most_largest: { (o : Self) → numbers o ≤ largest_size };
 
     ghost due_below_span: { (o : Self) (p n : ℕ) → IsParty p → IsNumber (numbers o) n → due o p n < horizon o };
 }

@@ -40,6 +40,8 @@ impl Order for Stride {
 
     ghost at_least_one = { λ o. o.round.size_fits.low };
 
+    ghost at_most_largest = { λ o. o.round.size_fits.high };
+
     ghost due_below_span = { λ o p n is number.
         dues_below (λ q. q) o.round.size o.stride o.round.size_fits.low o.fits.low o.fits.apart
         (λ i h. (i, h, refl)) (λ i h. h) (place_of o.round.places p) n (o.round.placed p is) number };
