@@ -1,6 +1,7 @@
 -- A walk's own part: what it sets down in its caller's lists, and where it goes when it has read a node.
 use Rattle.std.specs.Prelude.{ℕ, Bool, true, cond, not, ◌&&◌, Some, None, Option, ◌==◌}
 use Rattle.model.specs.Fun.{upd, sum_to}
+use Rattle.model.specs.declared.words.NodeRead.{NodeRead}
 use Rattle.model.specs.Types.{Kid, First, Second, Third, Kids, ReadNothing, Running, Idle, WalkReads, WalkGoesDown, Situation}
 use Rattle.model.specs.State.{Trail, no_trail, along, shorter, Store, set_trail, set_run, last}
 
@@ -32,6 +33,10 @@ module _ {W : Type 0} (notes : Notes W) where
   noted n w = record { marks = upd notes.marks n true; worths = upd notes.worths n w }
 
 module _ {D W : Type 0} (worth : D → Situation → W → W → W → W) (blank : W) where
+  -- the worth of a node from the worths that are noted of its kids
+  abbrev pub worked_out : Notes W → NodeRead D → W
+  worked_out notes read = worth read.given read.situation (kid_worth notes blank read.kids.first) (kid_worth notes blank read.kids.second) (kid_worth notes blank read.kids.third)
+
   -- up from the last node
   abbrev pub gone_up : Store D → ℕ → Situation → Store D
   gone_up s p t = set_run (set_trail s p (shorter (s.trail p))) p (resumes t (shorter (s.trail p)))
@@ -43,5 +48,5 @@ module _ {D W : Type 0} (worth : D → Situation → W → W → W → W) (blank
   abbrev pub settled_notes : Store D → Notes W → ℕ → Situation → D → Kids → Notes W
   settled_notes s notes p t d ks = elim (first_unmarked notes ks) [
     | Some k ↦ notes
-    | None ↦ noted notes (last s p) (worth d t (kid_worth notes blank ks.first) (kid_worth notes blank ks.second) (kid_worth notes blank ks.third))
+    | None ↦ noted notes (last s p) (worked_out notes (record { situation = t; given = d; kids = ks }))
   ]

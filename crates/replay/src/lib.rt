@@ -6,5 +6,5 @@ pub mod numbers;
 mod opening;
 pub mod replaying;
 mod replies;
-mod requests;
+pub mod requests;
 mod turning;

@@ -2,10 +2,9 @@
 use Rattle.std.specs.Prelude.{◌≡◌, ℕ, Bool, false, ◌&&◌, List, [], length, nat_le}
 use Rattle.model.specs.Entries.{nth}
 use Rattle.model.specs.Steps.{between}
-use Rattle.model.specs.declared.words.NodeRead.{NodeRead}
 use Rattle.walks.specs.declared.notes.Notes.{Notes as Lent}
-use Rattle.model.specs.Types.{Situation}
-use Rattle.model.specs.Walks.{Notes, kid_worth}
+use Rattle.model.specs.Walks.{Notes}
+pub use Rattle.model.specs.Walks.{worked_out}
 
 -- the marks of the nodes 1 to M on a list; what stands beyond is not looked at
 abbrev pub marks_of : ℕ → List Bool → ℕ → Bool
@@ -25,10 +24,6 @@ worths_alone blank worths = notes_of blank 0 [] worths
 -- n is one of the nodes 1 to M, and each of these has an entry on both lists
 abbrev pub has_entries : {W : Type 0} → ℕ → List Bool → List W → ℕ → Bool
 has_entries M marks worths n = between 1 M n && (nat_le M (length marks) && nat_le M (length worths))
-
--- the worth of a node from the worths that are noted of its kids
-abbrev pub worked_out : {D W : Type 0} → (D → Situation → W → W → W → W) → W → Notes W → NodeRead D → W
-worked_out worth blank notes read = worth read.given read.situation (kid_worth notes blank read.kids.first) (kid_worth notes blank read.kids.second) (kid_worth notes blank read.kids.third)
 
 -- still the two lists that were lent, each as long as before
 abbrev pub SameLists : {W : Type 0} → Lent W → Lent W → Type 0
