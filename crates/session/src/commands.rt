@@ -5,15 +5,15 @@ ghost use Rattle.model.specs.Steps.{between};
 use crate::lending::{begin, begin_walk, turn, turn_walk};
 use crate::session::Session;
 use kinds::kind::Kind;
-use model::calls::{Asked, Event, Lengths, Walk};
+use model::calls::{Asked, Call, Event, Lengths, Walk};
 use model::outcomes::Outcome;
 use orders::limits::Party;
 use orders::order::Order;
 use refusals::Refusal;
 
 impl<K: Kind, U: Order + Drop, V: Order + Drop> Session<K, U, V> {
-    ghost use Rattle.model.specs.declared.calls.Asked.TheVariants.{AsksWalk};
-    ghost use Rattle.model.specs.declared.calls.Event.TheVariants.{Begins, WalkTurns};
+    ghost use Rattle.model.specs.declared.calls.Asked.TheVariants.{AsksCall, AsksWalk};
+    ghost use Rattle.model.specs.declared.calls.Event.TheVariants.{Begins, Turns, WalkTurns};
     ghost use Rattle.session.specs.Sessions.{CommandOnSession};
 
     // Carries out one command. It is lent as many entries of each list as it says, and no more than there are.
@@ -22,16 +22,31 @@ impl<K: Kind, U: Order + Drop, V: Order + Drop> Session<K, U, V> {
     {
         match command {
             Event::Begins(party, Asked::AsksCall(call), lengths) => {
-                begin(&mut self.store, party, call, lengths, &self.entries)
+                self.begin(party, call, lengths)
             }
             Event::Begins(party, Asked::AsksWalk(walk), lengths) => {
                 self.begin_walk(party, walk, lengths)
             }
-            Event::Turns(party, lengths) => {
-                turn(&mut self.store, party, lengths, &mut self.entries)
-            }
+            Event::Turns(party, lengths) => self.turn(party, lengths),
             Event::WalkTurns(party, lengths) => self.turn_walk(party, lengths),
         }
+    }
+
+    fn begin(
+        &mut self,
+        party: Party,
+        call: Call<K::Data>,
+        lengths: Lengths,
+    ) -> Outcome<K::Data, K::Worth>
+        ensures { CommandOnSession (Begins party (AsksCall call) lengths) result self.old self.new }
+    {
+        begin(&mut self.store, party, call, lengths, &self.entries)
+    }
+
+    fn turn(&mut self, party: Party, lengths: Lengths) -> Outcome<K::Data, K::Worth>
+        ensures { CommandOnSession (Turns party lengths) result self.old self.new }
+    {
+        turn(&mut self.store, party, lengths, &mut self.entries)
     }
 
     fn begin_walk(

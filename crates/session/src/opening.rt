@@ -1,5 +1,6 @@
 ghost use Rattle.std.specs.Prelude.{◌≡◌, All, IfOk, MatchResult, replicate, vec_items, vec_len};
 ghost use Rattle.session.specs.Performed.{Unnoted};
+ghost use Rattle.store.specs.Given.{zero_data};
 ghost use Rattle.store.specs.Opening.{OpeningFails};
 
 use crate::lists::WalkLists;
@@ -19,6 +20,13 @@ fn filled<T: Copy>(heap: Global, len: usize, entry: T) -> Result<Vec<T>, AllocEr
         list.push_reserved(entry);
     }
     Ok(list)
+}
+
+// Data of all zero bytes for each of so many nodes.
+fn zero_entries<K: Kind>(heap: Global, nodes: usize) -> Result<Vec<K::Data>, AllocError>
+    ensures { IfOk result (λ v. vec_items v ≡ replicate nodes (zero_data K.Kind)) }
+{
+    filled(heap, nodes, K::from_bytes(0, [0; 4]))
 }
 
 // Lists for so many nodes, on which nothing is noted.
@@ -65,7 +73,7 @@ impl<K: Kind, U: Order + Drop, V: Order + Drop> Session<K, U, V> {
         let all_nodes = nodes as usize;
         Ok(Session {
             store,
-            entries: filled(heap, all_nodes, K::from_bytes(0, [0; 4]))?,
+            entries: zero_entries::<K>(heap, all_nodes)?,
             walks: unnoted_by_all::<K>(heap, all_nodes, parties as usize)?,
         })
     }

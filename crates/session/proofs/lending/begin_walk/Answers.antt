@@ -1,4 +1,4 @@
-use Rattle.std.proofs.Common.{◌≡◌, refl, rules, ◌∙◌, ap, ◌++◌}
+use Rattle.std.proofs.Common.{refl, rules}
 use Rattle.store.specs.Shown.{shown}
 use Rattle.session.proofs.Lent.{begins_walk}
 use Rattle.session.proofs.lending.begin_walk.Goals as goal
@@ -8,11 +8,9 @@ returns g c =
     let before = shown c.args.store.now c.args.data.now in
     let marks = c.split_at_mut-marks in
     let worths = c.split_at_mut-worths in
-    let m : c.marks-1.given.0 ≡ c.begin_walk.new.notes.marks.now = search rules in
-    let w : c.worths-1.given.0 ≡ c.begin_walk.new.notes.worths.now = search rules in
     let E = c.begin_walk.ensures in
     begins_walk g.K.Kind g.U.Order g.V.Order before (shown c.begin_walk.new.self c.args.data.now) c.args.lengths.entries c.min-lent.result c.requires.entries c.min-lent.ensures
     c.args.party _ c.begin_walk.new.notes c.args.marks.now _ c.args.worths.now _ c.args.lengths.marks c.min-marked.result c.args.lengths.worths c.min-noted.result
     c.requires.lists.0 c.requires.lists.1 c.min-marked.ensures c.min-noted.ensures marks.ensures.front worths.ensures.front
-    (ap (λ l. l ++ marks.result.1.now) m ∙ ap (λ l. c.begin_walk.new.notes.marks.now ++ l) marks.ensures.back) (ap (λ l. l ++ worths.result.1.now) w ∙ ap (λ l. c.begin_walk.new.notes.worths.now ++ l) worths.ensures.back)
+    (search rules) (search rules)
     E.same_lists E.begins.further c.args.walk c.args.lengths refl refl refl refl E.begins
