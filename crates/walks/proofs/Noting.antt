@@ -10,7 +10,6 @@ use Rattle.model.specs.Fun.{upd, sum_to}
 use Rattle.model.specs.Types.{Kids}
 use Rattle.model.specs.Walks.{marked, first_unmarked, noted}
 use Rattle.model.proofs.EntryLemmas.{nth_set}
-use Rattle.model.proofs.Sums.{upd_other}
 use Rattle.walks.specs.Notes.{marks_of, notes_of, marks_alone, has_entries}
 
 -- which kid is the first unmarked does not depend on the worths
@@ -32,8 +31,8 @@ marked_in_front M marks (suc n) h = elim (cases_lt n (length marks)) [
 pub marked_counted : (M : ℕ) (marks : List Bool) (r : ℕ) → r ≡ count_by (λ b. b) (take (min M (length marks)) marks) → r ≡ marked M (marks_of M marks)
 marked_counted M marks r counted = counted ∙ rw (take_min M marks) (marked_in_front M marks M (omega arith))
 
-mark_set : (M : ℕ) (marks : List Bool) (n : ℕ) → 1 ≤ n → n ≤ M → M ≤ length marks → marks_of M (set marks (n - 1) true) ≡ upd (marks_of M marks) n true
-mark_set M marks n low high long = fun_ext (λ m. ap (λ f. leb m M && f m) (nth_set false marks n true low (omega arith)) ∙ go m)
+mark_set : (M : ℕ) (marks marks' : List Bool) (n : ℕ) → n ≤ M → nth false marks' ≡ upd (nth false marks) n true → marks_of M marks' ≡ upd (marks_of M marks) n true
+mark_set M marks marks' n high e = fun_ext (λ m. ap (λ f. leb m M && f m) e ∙ go m)
   where
     go : (m : ℕ) → leb m M && upd (nth false marks) n true m ≡ upd (marks_of M marks) n true m
     go m = elim (cases_eq m n) [ inl e ↦ grind (arith, nat_tests) | inr h ↦ grind (arith, nat_tests) ]
@@ -42,20 +41,14 @@ mark_set M marks n low high long = fun_ext (λ m. ap (λ f. leb m M && f m) (nth
 entries_there : {W : Type 0} (M : ℕ) (marks : List Bool) (worths : List W) (n : ℕ) → has_entries M marks worths n ≡ true → (1 ≤ n) × (n ≤ M) × (M ≤ length marks) × (M ≤ length worths)
 entries_there M marks worths n there = (grind (arith, nat_tests), grind (arith, nat_tests), grind (arith, nat_tests), grind (arith, nat_tests))
 
-module _ {W : Type 0} (blank : W) (M : ℕ) (marks : List Bool) (worths : List W) (n i : ℕ) (w : W) (there : has_entries M marks worths n ≡ true) (at : i ≡ n - 1) where
-  -- a mark and a worth written there are the notes with n noted
-  pub noted_by_writes : (v : W) → w ≡ v → notes_of blank M (set marks i true) (set worths i w) ≡ noted (notes_of blank M marks worths) n v
-  noted_by_writes v e =
-      let h = entries_there M marks worths n there in
-      let a : marks_of M (set marks i true) ≡ upd (marks_of M marks) n true = ap (λ j. marks_of M (set marks j true)) at ∙ mark_set M marks n h.0 h.1 h.2 in
-      let b : nth blank (set worths i w) ≡ upd (nth blank worths) n w = ap (λ j. nth blank (set worths j w)) at ∙ nth_set blank worths n w h.0 (omega arith) in
-      cc
+-- what is written where entry n stands is that of n
+pub entry_written : {A : Type 0} (none : A) (l : List A) (n i : ℕ) (x : A) → 1 ≤ n → n ≤ length l → i ≡ n - 1 → nth none (set l i x) ≡ upd (nth none l) n x
+entry_written none l n i x low high at = ap (λ j. nth none (set l j x)) at ∙ nth_set none l n x low high
 
-  -- and leave the other entries
-  pub entries_beside : (m : ℕ) → (m ≡ n → ⊥) → (nth false (set marks i true) m ≡ nth false marks m) × (nth blank (set worths i w) m ≡ nth blank worths m)
-  entries_beside m other =
-      let h = entries_there M marks worths n there in
-      (beside false marks true h.0 (omega arith) m other, beside blank worths w h.0 (omega arith) m other)
-    where
-      beside : {A : Type 0} (none : A) (l : List A) (v : A) → 1 ≤ n → n ≤ length l → (m : ℕ) → (m ≡ n → ⊥) → nth none (set l i v) m ≡ nth none l m
-      beside none l v low high m other = ap (λ j. nth none (set l j v) m) at ∙ ap (λ f. f m) (nth_set none l n v low high) ∙ upd_other (nth none l) n m v other
+-- where the mark and the worth of node n are written, the notes are those with n noted
+pub noted_by : {W : Type 0} (blank : W) (M : ℕ) (marks marks' : List Bool) (worths worths' : List W) (n : ℕ) (w v : W) → has_entries M marks worths n ≡ true
+    → nth false marks' ≡ upd (nth false marks) n true → nth blank worths' ≡ upd (nth blank worths) n w → w ≡ v → notes_of blank M marks' worths' ≡ noted (notes_of blank M marks worths) n v
+noted_by blank M marks marks' worths worths' n w v there mark worth e =
+    let h = entries_there M marks worths n there in
+    let a : marks_of M marks' ≡ upd (marks_of M marks) n true = mark_set M marks marks' n h.1 mark in
+    cc

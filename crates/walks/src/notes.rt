@@ -1,5 +1,6 @@
-ghost use Rattle.std.specs.Prelude.{◌≡◌, ℕ, ◌<◌, true, false, ◌≢◌};
+ghost use Rattle.std.specs.Prelude.{◌≡◌, ℕ, ◌<◌, ◌≤◌, true, false, ◌≢◌, length};
 ghost use Rattle.model.specs.Entries.{nth};
+ghost use Rattle.model.specs.Fun.{upd};
 ghost use Rattle.model.specs.Walks.{first_unmarked, marked, noted};
 ghost use Rattle.walks.specs.Notes.{SameLists, has_entries, marks_alone, marks_of, notes_of, worked_out, worths_alone};
 
@@ -52,7 +53,6 @@ impl<'a, W: Copy> Notes<'a, W> {
 
     // Works out what the node is worth from what is noted of its kids, notes it and marks the node. Tells whether it
     // did: a number that is no node, or a list that is too short, changes nothing.
-    #[tactic(auto, using(crate::proofs::Noting::entries_beside))]
     pub fn set_down<K: Kind<Worth = W>>(
         &mut self,
         nodes: Node,
@@ -69,10 +69,21 @@ impl<'a, W: Copy> Notes<'a, W> {
             return false;
         }
         let worth = self.work_out::<K>(read);
+        self.note(n, worth);
+        true
+    }
+
+    // Marks the node and notes its worth.
+    #[tactic(auto, using(crate::proofs::Noting::entry_written))]
+    fn note(&mut self, n: Node, worth: W)
+        requires { (1 ≤ n) × (n ≤ length self.old.marks.now) × (n ≤ length self.old.worths.now) }
+        ensures lists { SameLists self.old self.new }
+        ensures mark { nth false self.new.marks.now ≡ upd (nth false self.old.marks.now) n true }
+        ensures worth { (blank : W) → nth blank self.new.worths.now ≡ upd (nth blank self.old.worths.now) n worth }
+    {
         let i = usize::from(n - 1);
         self.marks[i] = true;
         self.worths[i] = worth;
-        true
     }
 
     // Whether the number is a node, and each node has an entry on both lists.
