@@ -16,7 +16,7 @@ pub record Holds {D : Type 0} (before after : PartyRecord D) (slots : ℕ → �
   pub trail_is : trail_of after.trail ≡ trail
   pub running_is : after.running ≡ running
 
--- how a step changes its party's slots and trail
+-- how a step changes its party's slots and trail: the model's `changed`, for one party's record
 abbrev pub slots_after : (ℕ → ℕ) → Change → ℕ → ℕ
 slots_after slots c = elim c [ Stays ↦ slots | Fills i v ↦ upd slots i v | Lengthens n ↦ slots ]
 

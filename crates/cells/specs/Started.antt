@@ -1,4 +1,4 @@
--- What a Begin makes of its party's trail and of what the party runs.
+-- What a Begin makes of its party's trail and of what the party runs: the model's `started`, for one party's record.
 use Rattle.std.specs.Prelude.{ℕ, []}
 use Rattle.model.specs.declared.calls.Call.{Call}
 use Rattle.model.specs.declared.running.Running.{Running}

@@ -1,4 +1,4 @@
--- Where a walk goes once it has read a node: down to a kid, or up.
+-- Where a walk goes once it has read a node, down to a kid or up: the model's `settled_store`, for the kid that is told.
 use Rattle.std.specs.Prelude.{ℕ, Some, None, Option}
 use Rattle.model.specs.Types.{Kid, Situation}
 use Rattle.model.specs.declared.running.Running.{Running}

@@ -1,4 +1,4 @@
--- How a Make goes from kid to kid of its node.
+-- How a Make goes from kid to kid of its node: the model's `data_given` and `onward`, from one kid on.
 use Rattle.std.specs.Prelude.{ℕ, Option, Some, None}
 use Rattle.kinds.specs.declared.kids.Kid.{Kid}
 use Rattle.kinds.specs.declared.kids.Kid.TheVariants.{First, Second, Third}
