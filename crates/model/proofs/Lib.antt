@@ -63,3 +63,7 @@ pub mod StoreLaw
 pub mod SmallOrders
 pub mod FiveCalls
 pub mod RefusedCalls
+pub mod Alike
+pub mod AlikeTurns
+pub mod OneSituation
+pub mod AlikeMoves

@@ -3,3 +3,7 @@ pub mod TurnsOn
 pub mod LinesDone
 pub mod RunsOn
 pub mod SoFar
+pub mod SeveralTurns
+pub mod AlikeStarts
+pub mod AlikeLines
+pub mod OneText

@@ -3,6 +3,7 @@
 
 mod held;
 pub mod numbers;
+pub mod one_text;
 mod opening;
 pub mod replaying;
 mod replies;
