@@ -1,5 +1,5 @@
 -- The model's step in the program's two parts: one that is taken, and the settling of the node that a walk has read.
-use Rattle.std.proofs.Common.{◌≡◌, ℕ, Bool, true, false, Some, None, Option, sym, refl, ap, ◌∙◌, subst, true≢false, arith}
+use Rattle.std.proofs.Common.{◌≡◌, ℕ, Bool, false, Some, None, Option, sym, refl, ap, ◌∙◌, subst, true≢false, arith}
 use Rattle.kinds.specs.declared.gearbox.Situation.{Situation}
 use Rattle.kinds.specs.declared.kids.Kid.{Kid}
 use Rattle.model.specs.Types.{Outcome}
