@@ -50,7 +50,9 @@ pub(crate) fn go<D: Copy, W: Copy>(word: Word<D>, next: Running<D>) -> Decision<
     }
 }
 
-// The running job goes on at another place.
+// The running job goes on at another place. Inlined, and the job left where it stands in the copy, since most steps of a
+// Make end here.
+#[inline(always)]
 pub(crate) fn go_to<D: Copy, W: Copy>(
     word: Word<D>,
     own: &PartyRecord<D>,
@@ -58,10 +60,11 @@ pub(crate) fn go_to<D: Copy, W: Copy>(
 ) -> Decision<D, W>
     ensures { result ≡ going word (moved own.now.running place) }
 {
-    match own.running {
-        Running::Works(job, _) => go(word, Running::Works(job, place)),
-        running => go(word, running),
+    let mut next = own.running;
+    if let Running::Works(_, at) = &mut next {
+        *at = place;
     }
+    go(word, next)
 }
 
 // A walk goes down to the kid.
