@@ -54,8 +54,12 @@ impl<D: Copy> Cells<D> {
     {
         let record = self.record(party)?;
         let address = address_of(record, party, pick, self.sizes());
-        let word = self.load(data, address)?;
-        let decision = decide(record, &word, party, pick)?;
+        let Some(word) = self.load(data, address) else {
+            return None;
+        };
+        let Some(decision) = decide(record, &word, party, pick) else {
+            return None;
+        };
         if !has_room(&record.trail, decision.change) {
             return None;
         }

@@ -210,5 +210,8 @@ pub fn decide<D: Copy, W: Copy>(
 ) -> Option<Decision<D, W>>
     ensures { result ≡ (if movable own.now.running word.now then Some (decides own.now.running word.now party pick (nth 0 own.now.slots) (last_of (trail_of own.now.trail))) else None) }
 {
-    can_move(&own.running, word).then(|| ruled(own, word, party, pick))
+    if !can_move(&own.running, word) {
+        return None;
+    }
+    Some(ruled(own, word, party, pick))
 }
