@@ -83,5 +83,5 @@ fn fits(m: u32, entries: &[u32]) -> bool
 fn times_on(entries: &[u32], n: u32) -> usize
     ensures { result ≡ times_on entries.now n }
 {
-    entries.iter().filter(|e| **e == n).count()
+    entries.iter().map(|e| usize::from(*e == n)).sum()
 }

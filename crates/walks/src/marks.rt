@@ -38,7 +38,8 @@ pub fn count_marked(marks: &[bool], nodes: Node) -> TermSize
     ensures { result ≡ marked nodes (marks_of nodes marks.now) }
 {
     let end = usize::from(nodes).min(marks.len());
-    marks[..end].iter().filter(|marked| **marked).count() as TermSize
+    let noted = marks[..end].iter();
+    noted.map(|marked| TermSize::from(*marked)).sum()
 }
 
 // A missing kid is not unmarked.
