@@ -89,5 +89,10 @@ unfolding sum_to
 sum_at_most k zero f h = omega arith
 sum_at_most k (suc n) f h = let d = sum_at_most k n f (λ i a b. h i a (omega arith)) in let e = h (suc n) (omega arith) (omega arith) in omega arith
 
+pub sum_to_const : (M : ℕ) → sum_to M (λ n. 1) ≡ M
+unfolding sum_to
+sum_to_const zero = refl
+sum_to_const (suc M) = let i = sum_to_const M in omega arith
+
 pub sum_to_none : (n : ℕ) (f : ℕ → ℕ) → ((k : ℕ) → 1 ≤ k → k ≤ n → f k ≡ 0) → sum_to n f ≡ 0
 sum_to_none n f h = let u = sum_at_most 0 n f (λ k a b. (let e = h k a b in omega arith)) in omega arith

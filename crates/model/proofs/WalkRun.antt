@@ -23,7 +23,7 @@ use Rattle.model.proofs.Kept.{Kept, moves_keep}
 use Rattle.model.proofs.TermSizes.{each_term_has_a_size}
 use Rattle.model.proofs.Worths.{SameTerm, worth_there, term_has_there, term_has_unique}
 use Rattle.model.proofs.Walk.{View, spent, none_marked, Standing, standing_there, standing_begun, spent_bound, Turned, goes_on, ends}
-use Rattle.model.proofs.WalkTurn.{view_of, StandingIn, place_walks, walk_slot, walk_low, walk_turned, WalkAnswers, walk_turn_writes_nothing}
+use Rattle.model.proofs.WalkTurn.{view_of, PlaceIn, StandingIn, standing_of, so_far_of, place_of, place_walks, walk_slot, walk_low, walk_turned, WalkAnswers, walk_turn_writes_nothing}
 use Rattle.model.proofs.Apart.{Apart}
 use Rattle.model.proofs.Others.{party_of}
 use Rattle.model.proofs.MovesApart.{apart_moves}
@@ -59,6 +59,13 @@ module _ {D W A B : Type 0} (X : Setting D W A B) where
 
     pub term_has_apart : (m : ℕ) → TermHas X.nodes F.store.kids (F.store.slot p i) m → TermHas X.nodes G.store.kids (G.store.slot p i) m
     term_has_apart m h = subst (λ r. TermHas X.nodes G.store.kids r m) (sym root_is) (term_has_there F.store.kids F.info G.store.kids G.info (F.store.slot p i) same_term X.nodes m h)
+
+  -- what another party does leaves what a walk has set down right, and its reading so far
+  pub walk_stands : (F G : System D W A B) → Sound X.parties X.nodes F.store → (p : ℕ) → 1 ≤ p → p ≤ X.parties → (i : ℕ) (t : Situation) → WalkSoFar X F p i t → PlaceIn X F p t (F.store.run p) → Apart X F G p
+      → WalkSoFar X G p i t × PlaceIn X G p t (G.store.run p)
+  walk_stands F G S p a b i t w h Q =
+      let st = standing_apart F G S p a b i t (standing_of X F S p a b i t w h) Q in
+      (so_far_of X G p i t st, place_of X G p i t st)
 
   -- p's walk from the slot i over m nodes
   module _ (p : ℕ) (a : 1 ≤ p) (b : p ≤ X.parties) (i : ℕ) (t : Situation) (m : ℕ) where
@@ -176,6 +183,10 @@ module _ {D W A B : Type 0} (X : Setting D W A B) where
 
     spent_at_first : spent X.nodes (view_of X walk_begun_system p i) ≡ 5
     spent_at_first = let none = none_marked X.nodes in let u : spent X.nodes first_view ≡ 5 = omega (arith, none) in ap (spent X.nodes) first_view_lem ∙ u
+
+    -- what a walk has set down at its Begin is right
+    pub walk_begins_right : WalkSoFar X walk_begun_system p i t × PlaceIn X walk_begun_system p t (walk_begun_system.store.run p)
+    walk_begins_right = (so_far_of X walk_begun_system p i t standing_at_first, place_of X walk_begun_system p i t standing_at_first)
 
   -- a walk's answer is the plain store's, where that agrees
   pub walk_happens : (F G : System D W A B) → Sound X.parties X.nodes F.store → (p : ℕ) → 1 ≤ p → p ≤ X.parties → (t : Situation) (w : Walk) (s : Plain D) (o : Outcome D W)

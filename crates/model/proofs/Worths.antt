@@ -59,6 +59,9 @@ module _ {D : Type 0} (kids : ℕ → Kids) (info : ℕ → D) (kids' : ℕ → 
   term_back x (inl e) = inl e
   term_back x (inr b) = inr (below_back b)
 
+  pub same_back : SameTerm kids' info' kids info r
+  same_back x h = let u = A x (term_back x h) in (sym u.0, sym u.1)
+
   pub worth_there : {W : Type 0} (worth : D → Situation → W → W → W → W) (blank : W) (t : Situation) {n : ℕ} {w : W} → (n ≢ 0 → InTerm kids r n) → WorksOut worth blank kids info t n w → WorksOut worth blank kids' info' t n w
   worth_there worth blank t o (missing e f) = missing e f
   worth_there {W} worth blank t {n} {w} o (worked {x = x} {y = y} {z = v} z a b c e) =
